@@ -1,0 +1,3 @@
+-- The definitions of `encoding`. What is proved of them: proofs/Promises.antt.
+pub mod Tried
+pub mod BigEndian

@@ -1,0 +1,40 @@
+-- `report::text::append_number` meets its contract: the bytes appended are the digits that `io::decimal` ensures. Assumes nothing.
+use borrow.Author.Needs.{needs}
+use mathlib.Core.Path.{subst}
+use Prim.Native.Nat.{ℕ}
+use mathlib.Core.List.{List, _++_}
+use Rattle.report.specs.Text.{Text}
+use Rattle.report.proofs.text.append_number.Statement.{statement}
+use Rattle.report.proofs.text.append_number.Tie as tie
+
+decimal-requires : tie.Need-decimal-requires
+decimal-requires c κs = search needs
+
+array-share-prefix-figures : tie.Need-array-share-prefix-figures
+array-share-prefix-figures c = search needs
+
+slice-aggregate-append : tie.Need-slice-aggregate-append
+slice-aggregate-append c = search needs
+
+append-requires : tie.Need-append-requires
+append-requires c κs = search needs
+
+same-length : tie.Need-same-length
+same-length c = search needs
+
+returns : tie.Need-returns
+returns c =
+    let d = c .before .before .before .before .before .decimal in
+    let p = c .before .before .append in
+    (p .ensures .0, (d .result, d .ensures .1 .0, λ l t. subst (λ (m : List ℕ). Text (p .last .0) (p .result) (l ++ m)) (d .ensures .1 .1) (p .ensures .1 l t)))
+
+pub append-number-spec : {M : Type 1} → statement M
+append-number-spec =
+    tie.close
+    (tie.spec
+    decimal-requires
+    array-share-prefix-figures
+    slice-aggregate-append
+    append-requires
+    same-length
+    returns)

@@ -1,0 +1,34 @@
+-- The definition of a reading at some texts. Assumes nothing.
+use Prim.Native.Nat.{ℕ}
+use mathlib.Core.Path.{_≡_, refl}
+use mathlib.Core.List.{List, [], _∷_}
+use Rattle.report.specs.Hex.{Reading, whole, wrong, single, full, isBlank, digitOf, afterHigh, tokenOf, readFrom, readingOf}
+use Rattle.report.specs.Text.{bytesOf}
+
+both-cases : readingOf (bytesOf "22 0aFf") 3 ≡ record { bytes = 0x22 ∷ 0x0a ∷ 0xff ∷ []; end = whole }
+unfolding isBlank digitOf afterHigh tokenOf readFrom
+both-cases = refl
+
+blanks : readingOf (bytesOf "\t27 \r\n") 3 ≡ record { bytes = 0x27 ∷ []; end = whole }
+unfolding isBlank digitOf afterHigh tokenOf readFrom
+blanks = refl
+
+nothing : readingOf [] 0 ≡ record { bytes = []; end = whole }
+unfolding readFrom
+nothing = refl
+
+wrong-second : readingOf (bytesOf "27 2g") 3 ≡ record { bytes = 0x27 ∷ []; end = wrong 4 }
+unfolding isBlank digitOf afterHigh tokenOf readFrom
+wrong-second = refl
+
+blank-inside : readingOf (bytesOf "2 7") 3 ≡ record { bytes = []; end = wrong 1 }
+unfolding isBlank digitOf afterHigh tokenOf readFrom
+blank-inside = refl
+
+left-over : readingOf (bytesOf "27 2") 3 ≡ record { bytes = 0x27 ∷ []; end = single }
+unfolding isBlank digitOf afterHigh tokenOf readFrom
+left-over = refl
+
+no-room : readingOf (bytesOf "27 22") 1 ≡ record { bytes = 0x27 ∷ []; end = full }
+unfolding isBlank digitOf afterHigh tokenOf readFrom
+no-room = refl

@@ -1,0 +1,4 @@
+mod Examples
+pub mod Hex
+pub mod Refusals
+pub mod Text

@@ -1,0 +1,205 @@
+// Pass 3: the heights of the stack in rising offset, and with them the greatest height and the longest walk.
+ghost use mathlib.Core.Path.{_≡_};
+ghost use mathlib.Core.Bool.{Bool, true};
+ghost use Prim.Native.Nat.{_+_, _≤_, _<_, max};
+ghost use lib.ListN.{length, getD};
+ghost use Rattle.isa.specs.Decode.{jumps, continues, next, operand, picked};
+ghost use Rattle.isa.specs.Rows.{table, IsRow};
+ghost use Rattle.isa.specs.Walk.{one};
+ghost use Rattle.verifier.specs.Pass1.{Decodes};
+ghost use Rattle.verifier.specs.Pass2.{Aims};
+ghost use Rattle.verifier.specs.Pass3.{joined, arrive, raise, atTarget, atNext, runsOff, longer, pass3};
+ghost use Rattle.verifier.specs.Tables.{effectOf, measureOf, Passing, Stepped};
+use crate::Effect;
+use crate::Measure;
+use crate::Step;
+use isa::Row;
+use isa::Stack;
+
+const UNREACHED: u8 = 255;
+const DIFFERING: u8 = 254;
+
+// The N of pick N, which comes on top of its row, or 0.
+fn picked_at(row: Row, e: &[u8], at: usize) -> usize
+    requires { ⌜ next (now e) at ≤ length (now e) ⌝ ∗ ⌜ IsRow (getD (now e) at 0) row ⌝ }
+    ensures { λ r. ⌜ (r ≡ picked (now (e .entry)) at) × (r < 256) ⌝ }
+{
+    if row.kind == isa::PICK {
+        return isa::operand_at(e, at, 1) as usize;
+    }
+    0
+}
+
+// Whether the instruction at `at` runs on past the last byte.
+fn runs_off(row: Row, e: &[u8], at: usize) -> bool
+    requires { ⌜ at < length (now e) ⌝ ∗ ⌜ IsRow (getD (now e) at 0) row ⌝ }
+    ensures { λ r. ⌜ r ≡ runsOff (now (e .entry)) at ⌝ }
+{
+    if row.kind == isa::GOTO {
+        return false;
+    }
+    if row.kind == isa::END {
+        return false;
+    }
+    e.len() <= at + 1 + row.operands as usize
+}
+
+// The height after the instruction at `at`, reached with that height, or the refusal of pass 3 there.
+fn effect_at(row: Row, e: &[u8], at: usize, height: u8) -> Effect
+    requires { ⌜ at < length (now e) ⌝ ∗ ⌜ next (now e) at ≤ length (now e) ⌝ ∗ ⌜ IsRow (getD (now e) at 0) row ⌝ }
+    ensures { λ r. ⌜ r ≡ effectOf (now (e .entry)) at height ⌝ }
+{
+    if height == DIFFERING {
+        return Effect::Fault(8);
+    }
+    let have = height as usize;
+    let picked = picked_at(row, e, at);
+    let needed = row.needed as usize + picked;
+    if !Stack::has(have, needed) {
+        return Effect::Fault(9);
+    }
+    let after = have - needed + (row.left as usize + picked);
+    if !Stack::fits(after) {
+        return Effect::Fault(10);
+    }
+    if runs_off(row, e, at) {
+        return Effect::Fault(11);
+    }
+    Effect::Height(after as u8)
+}
+
+fn joined_with(cell: u8, height: u8) -> u8
+    ensures { λ r. ⌜ r ≡ joined cell height ⌝ }
+{
+    if cell == UNREACHED {
+        return height;
+    }
+    if cell == height {
+        return height;
+    }
+    DIFFERING
+}
+
+fn greater(a: u16, b: u16) -> u16
+    ensures { λ r. ⌜ r ≡ max a b ⌝ }
+{
+    if a < b {
+        return b;
+    }
+    a
+}
+
+fn higher(a: u8, b: u8) -> u8
+    ensures { λ r. ⌜ r ≡ max a b ⌝ }
+{
+    if a < b {
+        return b;
+    }
+    a
+}
+
+// A walk arrives at `to` with that height, after that many instructions.
+fn arrive_at(to: usize, height: u8, distance: u16, heights: &mut [u8; 1024], distances: &mut [u16; 1024])
+    requires { ⌜ to < 1024 ⌝ }
+    ensures { λ _. ⌜ (now (heights .exit) ≡ arrive height to (now (heights .entry))) × (now (distances .exit) ≡ raise distance to (now (distances .entry))) ⌝ }
+{
+    heights[to] = joined_with(heights[to], height);
+    distances[to] = greater(distances[to], distance);
+}
+
+// The walks through `at` arrive at its target, where it is a jump.
+fn pass_to_target(row: Row, e: &[u8], at: usize, height: u8, distance: u16, heights: &mut [u8; 1024], distances: &mut [u16; 1024])
+    requires { ⌜ Passing (now e) at ⌝ ∗ ⌜ IsRow (getD (now e) at 0) row ⌝ }
+    ensures { λ _. ⌜ (now (heights .exit) ≡ atTarget (now (e .entry)) at (arrive height) (now (heights .entry))) × (now (distances .exit) ≡ atTarget (now (e .entry)) at (raise distance) (now (distances .entry))) ⌝ }
+{
+    if row.kind < isa::GOTO {
+        return;
+    }
+    if isa::IF_GOTO < row.kind {
+        return;
+    }
+    let target = isa::operand_at(e, at, 2) as usize;
+    arrive_at(target, height, distance, heights, distances);
+}
+
+// They arrive at the next start, where that may follow.
+fn pass_to_next(row: Row, e: &[u8], at: usize, height: u8, distance: u16, heights: &mut [u8; 1024], distances: &mut [u16; 1024])
+    requires { ⌜ at < 1024 ⌝ ∗ ⌜ (continues (now e) at ≡ true → next (now e) at < 1024) ⌝ ∗ ⌜ IsRow (getD (now e) at 0) row ⌝ }
+    ensures { λ _. ⌜ (now (heights .exit) ≡ atNext (now (e .entry)) at (arrive height) (now (heights .entry))) × (now (distances .exit) ≡ atNext (now (e .entry)) at (raise distance) (now (distances .entry))) ⌝ }
+{
+    if row.kind == isa::GOTO {
+        return;
+    }
+    if row.kind == isa::END {
+        return;
+    }
+    arrive_at(at + 1 + row.operands as usize, height, distance, heights, distances);
+}
+
+// The longest walk so far, with one of `distance` instructions that ends here where the instruction is an end.
+fn longer_at(row: Row, e: &[u8], at: usize, distance: u16, longest: u16) -> u16
+    requires { ⌜ IsRow (getD (now e) at 0) row ⌝ }
+    ensures { λ r. ⌜ r ≡ longer (now (e .entry)) at distance longest ⌝ }
+{
+    if row.kind == isa::END {
+        return greater(longest, distance);
+    }
+    longest
+}
+
+// One start: its refusal, or what it passes on.
+fn step(row: Row, e: &[u8], at: usize, heights: &mut [u8; 1024], distances: &mut [u16; 1024], greatest: u8, longest: u16) -> Step
+    requires { ⌜ Passing (now e) at ⌝ ∗ ⌜ IsRow (getD (now e) at 0) row ⌝ ∗ ⌜ getD (now distances) at 0 ≤ 1024 ⌝ }
+    ensures { λ r. ⌜ Stepped (now (e .entry)) at (now (heights .entry)) (now (distances .entry)) greatest longest r (now (heights .exit)) (now (distances .exit)) ⌝ }
+{
+    let height = heights[at];
+    if height == UNREACHED {
+        return Step {
+            fault: 0,
+            greatest,
+            longest,
+        };
+    }
+    match effect_at(row, e, at, height) {
+        Effect::Fault(number) => Step {
+            fault: number,
+            greatest,
+            longest,
+        },
+        Effect::Height(after) => {
+            let distance = distances[at] + 1;
+            pass_to_target(row, e, at, after, distance, heights, distances);
+            pass_to_next(row, e, at, after, distance, heights, distances);
+            let most = higher(greatest, after);
+            let walk = longer_at(row, e, at, distance, longest);
+            Step {
+                fault: 0,
+                greatest: most,
+                longest: walk,
+            }
+        }
+    }
+}
+
+pub fn measure(rows: &[[u8; 4]; 53], e: &[u8]) -> Measure
+    requires { ⌜ (now rows ≡ table) × (length (now e) ≤ 1024) × Decodes (now e) × Aims (now e) ⌝ }
+    ensures { λ r. ⌜ r ≡ measureOf (pass3 one (now (e .entry))) ⌝ }
+{
+    let mut heights = [UNREACHED; 1024];
+    let mut distances = [0u16; 1024];
+    heights[0] = 0;
+    let mut at = 0;
+    let mut greatest = 0;
+    let mut longest = 0;
+    while at < e.len() {
+        let row = isa::row_of(rows, e[at]);
+        let s = step(row, e, at, &mut heights, &mut distances, greatest, longest);
+        if s.fault != 0 {
+            return Measure::Fault(s.fault, at);
+        }
+        greatest = s.greatest;
+        longest = s.longest;
+        at = at + 1 + row.operands as usize;
+    }
+    Measure::Fine(greatest, longest)
+}

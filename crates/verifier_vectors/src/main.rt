@@ -1,0 +1,142 @@
+// Test vectors for the verifier: a line of hexadecimal in, a line with the verifier's answer out.
+ghost use Rattle.io.specs.Counts.{Counts};
+use libc::STDIN_FILENO;
+use libc::STDOUT_FILENO;
+use report::hex::Decoded;
+use report::text::append;
+use report::text::append_number;
+use verifier::Answer;
+
+fn append_accepted(out: &mut [u8], count: usize, height: u8, walk: u16) -> usize
+    ensures { λ r. ⌜ Counts r (now (out .exit)) ⌝ }
+{
+    let a = append(out, 0, b"accepted ");
+    let b = append_number(out, a, count as u64);
+    let c = append(out, b, b" ");
+    let d = append_number(out, c, height as u64);
+    let e = append(out, d, b" ");
+    let f = append_number(out, e, walk as u64);
+    append(out, f, b"\n")
+}
+
+fn append_refused(out: &mut [u8], number: u8, offset: usize) -> usize
+    ensures { λ r. ⌜ Counts r (now (out .exit)) ⌝ }
+{
+    let a = append(out, 0, b"refused ");
+    let b = append_number(out, a, number as u64);
+    let c = append(out, b, b" ");
+    let d = append_number(out, c, offset as u64);
+    append(out, d, b"\n")
+}
+
+fn append_answer(out: &mut [u8], expression: &[u8]) -> usize
+    ensures { λ r. ⌜ Counts r (now (out .exit)) ⌝ }
+{
+    match verifier::verify(expression) {
+        Answer::Accepted(count, height, walk) => append_accepted(out, count, height, walk),
+        Answer::Refused(number, offset) => append_refused(out, number, offset),
+    }
+}
+
+fn print_answer(expression: &[u8]) {
+    let mut line = [0u8; 64];
+    let n = append_answer(&mut line, expression);
+    io::write_all(STDOUT_FILENO, &line[..n]);
+}
+
+fn print_broken() {
+    io::write_all(STDOUT_FILENO, b"error: not a line of hexadecimal\n");
+}
+
+fn answer_text(text: &[u8]) {
+    let mut bytes = [0u8; 4096];
+    match report::hex::decode(text, &mut bytes) {
+        Decoded::Bytes(n) => print_answer(&bytes[0..n]),
+        _ => print_broken(),
+    }
+}
+
+// The answer to a line of `len` characters, of which the buffer holds all unless it is too short.
+fn answer(text: &[u8], len: usize) {
+    if text.len() < len {
+        print_broken();
+        return;
+    }
+    answer_text(&text[0..len]);
+}
+
+// One character more. A line that is longer than the buffer has one length, whatever follows.
+fn take(text: &mut [u8], len: usize, c: u8) -> usize {
+    if len < text.len() {
+        text[len] = c;
+        return len + 1;
+    }
+    text.len() + 1
+}
+
+fn feed(text: &mut [u8], len: usize, c: u8) -> usize {
+    if c == b'\n' {
+        answer(text, len);
+        return 0;
+    }
+    take(text, len, c)
+}
+
+fn feed_all(text: &mut [u8], first: usize, part: &[u8]) -> usize {
+    let mut len = first;
+    let mut i = 0;
+    while i < part.len() {
+        len = feed(text, len, part[i]);
+        i += 1;
+    }
+    len
+}
+
+// The length of the line that is not ended yet, and whether there may be more input.
+pub struct Progress {
+    pub len: usize,
+    pub is_more: bool,
+}
+
+// One read: a line may go on in the next.
+fn read_some(text: &mut [u8], len: usize) -> Progress {
+    let mut part = io::large_buffer();
+    let got = libc::read(STDIN_FILENO, &mut part);
+    if got <= 0 {
+        return Progress {
+            len,
+            is_more: false,
+        };
+    }
+    let n = io::count(got, &part);
+    let next = feed_all(text, len, &part[..n]);
+    Progress {
+        len: next,
+        is_more: true,
+    }
+}
+
+// Reads to the end of the input, and answers the length of what follows the last line end. The
+// count of turns is there for the proof that the loop ends; no input uses it up.
+fn read_lines(text: &mut [u8]) -> usize {
+    let mut len = 0;
+    let mut turns = u64::MAX;
+    while turns > 0 {
+        let progress = read_some(text, len);
+        if !progress.is_more {
+            return len;
+        }
+        len = progress.len;
+        turns -= 1;
+    }
+    len
+}
+
+// A last line with no line end counts too.
+fn main() {
+    let mut text = [0u8; 8192];
+    let len = read_lines(&mut text);
+    if 0 < len {
+        answer(&text, len);
+    }
+}

@@ -1,0 +1,109 @@
+//! Cases for the vectors. Nothing here evaluates a case: the outcomes are
+//! found elsewhere. Each family has its own generator of numbers, so a change
+//! in one leaves the others as they are.
+
+mod edges;
+pub mod examples;
+mod faults;
+mod mutate;
+mod noise;
+mod operands;
+mod program;
+mod shapes;
+mod structured;
+
+use crate::isa;
+use crate::random::Random;
+use std::collections::BTreeSet;
+
+/// The one seed of all vectors.
+const SEED: u64 = 0x6167_656e_7431_3031;
+
+fn family(number: u64) -> Random {
+    Random::new(SEED + number)
+}
+
+/// The expressions of the verifier's vectors, each once.
+pub fn verifier_cases() -> Vec<Vec<u8>> {
+    let all = [
+        examples::cases(),
+        noise::single_bytes(),
+        noise::cut_short(&mut family(1)),
+        edges::cases(),
+        edges::too_long(&mut family(2), 142),
+        edges::full_stacks(&mut family(11), 120),
+        shapes::cases(),
+        many(&mut family(3), 1_900, small_structured),
+        many(&mut family(4), 50, long_structured),
+        many(&mut family(5), 1_300, mutated),
+        many(&mut family(6), 250, noise::random_bytes),
+        many(&mut family(7), 650, noise::random_opcodes),
+        faults::single(&mut family(8), 60),
+        faults::unreached(&mut family(9), 20),
+        faults::pairs(&mut family(10), 4),
+    ];
+    without_repeats(all.concat())
+}
+
+fn many(random: &mut Random, count: usize, make: fn(&mut Random) -> Vec<u8>) -> Vec<Vec<u8>> {
+    (0..count).map(|_| make(random)).collect()
+}
+
+fn without_repeats(cases: Vec<Vec<u8>>) -> Vec<Vec<u8>> {
+    let mut seen = BTreeSet::new();
+    let first = |case: &Vec<u8>| seen.insert(case.clone());
+    cases.into_iter().filter(first).collect()
+}
+
+/// Most are short, so that all their walks can be made.
+fn small_structured(random: &mut Random) -> Vec<u8> {
+    let most = random.choose(&[12, 25, 25, 50, 50, 100, 200]);
+    let size = random.between(2, most);
+    structured::program(random, size).bytes()
+}
+
+/// At the limit of length or a little below it.
+fn long_structured(random: &mut Random) -> Vec<u8> {
+    let below = random.between(isa::MOST_BYTES - 60, isa::MOST_BYTES);
+    let length = random.choose(&[isa::MOST_BYTES, isa::MOST_BYTES - 1, below]);
+    structured::exact(random, length).bytes()
+}
+
+fn mutated(random: &mut Random) -> Vec<u8> {
+    let most = random.choose(&[12, 25, 50, 100]);
+    let size = random.between(2, most);
+    let program = structured::program(random, size);
+    mutate::mutate(random, &program)
+}
+
+#[cfg(test)]
+pub mod tests {
+    use super::*;
+    use crate::verify::verify;
+
+    /// A small expression of a kind that goes round with `number`.
+    pub fn small(random: &mut Random, number: usize) -> Vec<u8> {
+        let size = random.between(1, 30);
+        let program = structured::program(random, size);
+        match number % 5 {
+            0 => program.bytes(),
+            1 => mutate::mutate(random, &program),
+            2 => faults::one(random, number / 5),
+            3 => noise::random_bytes(random),
+            _ => noise::random_opcodes(random),
+        }
+    }
+
+    #[test]
+    fn structured_expressions_are_accepted() {
+        let mut random = Random::new(1);
+        for _ in 0..5_000 {
+            let bytes = small_structured(&mut random);
+            assert!(verify(&bytes).is_ok(), "{bytes:02x?}");
+        }
+        for _ in 0..50 {
+            let bytes = long_structured(&mut random);
+            assert!(bytes.len() > 960 && verify(&bytes).is_ok(), "{bytes:02x?}");
+        }
+    }
+}
