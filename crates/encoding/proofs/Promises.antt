@@ -2,13 +2,22 @@
 use mathlib.Core.Bool.{Bool, true, false, not, cond, _&&_}
 use mathlib.Core.List.{List, [], _∷_}
 use mathlib.Core.Path.{_≡_, refl}
-use Prim.Native.Nat.{ℕ, _≤_, _<_}
+use Prim.Native.Nat.{ℕ, _≤_, _<_, zero-le}
 use native.Mathlib.Omega.{arith}
-use lib.Dec.{T, ltb, ltb→lt}
+use native.Mathlib.Decide.{decLt}
+use lib.Dec.{T, leb, ltb, leb→le, ltb→lt}
 use borrow.Author.Tests.{not-true, not-false}
 use Rattle.encoding.specs.Tried.{tried, numbered, NoneHolds, Decides}
 
--- ---- both tests hold
+-- ---- numbers and truth values
+-- a number is below another, or it is not
+pub cases {ℓ} : {X : Type ℓ} (a b : ℕ) → (a < b → X) → (b ≤ a → X) → X
+cases a b f g = elim (decLt a b) [ yes h ↦ f h | no h ↦ g (omega arith) ]
+
+-- false is not true
+pub no-true {ℓ} : {X : Type ℓ} → _≡_ {A = Bool} false true → X
+no-true p = absurd (let z : _≡_ {A = ℕ} 0 1 = cc in omega arith)
+
 pub and-left : (a b : Bool) → T (a && b) → T a
 and-left true b t = tt
 and-left false b t = t
@@ -35,3 +44,18 @@ none-holds [] n h = tt
 none-holds (t ∷ ts) n h =
     let p = first-fails (t .0) (t .1) (tried ts) (and-left (ltb 0 (t .1)) (numbered ts) n) h in
     (p .0, none-holds ts (and-right (ltb 0 (t .1)) (numbered ts) n) (p .1))
+
+-- ---- the number found is at most the greatest
+abbrev pub numbersAtMost : ℕ → List (Bool × ℕ) → Bool
+numbersAtMost b [] = true
+numbersAtMost b (t ∷ ts) = leb (t .1) b && numbersAtMost b ts
+
+chosen-most : (c : Bool) (b x y : ℕ) → x ≤ b → y ≤ b → cond c x y ≤ b
+chosen-most true b x y h l = h
+chosen-most false b x y h l = l
+
+pub tried-most : (b : ℕ) (ts : List (Bool × ℕ)) → T (numbersAtMost b ts) → tried ts ≤ b
+tried-most b [] n = zero-le
+tried-most b (t ∷ ts) n =
+    chosen-most (t .0) b (t .1) (tried ts) (leb→le (t .1) b (and-left (leb (t .1) b) (numbersAtMost b ts) n))
+    (tried-most b ts (and-right (leb (t .1) b) (numbersAtMost b ts) n))

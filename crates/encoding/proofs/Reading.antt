@@ -30,10 +30,10 @@ module _ {e : List ℕ} {i n v k : ℕ} (r : Reading e i n v k) where
   pub reading-turn : k < n → {x : ℕ} → x ≡ getD e (i + k) 0 → x < 256 → Reading e i n (v * 256 + x) (k + 1)
   unfolding bigEndian
   reading-turn l {x} p s = record {
-      within = omega arith;
-      same = rw (add-one, r .same, p) refl;
-      low = rw (add-one, pow-suc) (omega (arith, r .low))
-      }
+    within = omega arith;
+    same = rw (add-one, r .same, p) refl;
+    low = rw (add-one, pow-suc) (omega (arith, r .low));
+  }
 
   pub reading-end : n ≤ k → (v ≡ bigEndian e i n) × (v < 256 ^ n)
   reading-end g = let q : k ≡ n = omega (arith, r .within) in (rw q at (r .same), rw q at (r .low))

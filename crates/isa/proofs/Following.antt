@@ -1,25 +1,17 @@
 -- Laws of the instruction starts: which follow each other, and that none lies inside another's instruction.
-use mathlib.Core.Bool.{Bool, true, false}
+use mathlib.Core.Bool.{true, false}
 use mathlib.Core.List.{List, [], _∷_}
 use mathlib.Core.Path.{_≡_, refl, ap, sym, _∙_}
 use mathlib.Core.Logic.{_⊎_, inl, inr, ⊎-elim}
 use Prim.Native.Nat.{ℕ, zero, suc, _+_, _-_, _≤_, _<_}
 use native.Mathlib.Omega.{arith}
-use native.Mathlib.Decide.{decLt, ℕ-discrete}
+use native.Mathlib.Decide.{ℕ-discrete}
 use lib.ListN.{length}
-use lib.Dec.{eqb}
 use borrow.Author.Tests.{lt-ltb, le-ltb, eq-eqb, ne-eqb}
+use Rattle.encoding.proofs.Promises.{cases, no-true}
 use Rattle.isa.specs.Classes.{member}
 use Rattle.isa.specs.Decode.{next}
 use Rattle.isa.specs.Starts.{startsAtMost, startsFrom, starts, isStart}
-
--- a number is below another, or it is not
-pub cases {ℓ} : {X : Type ℓ} (a b : ℕ) → (a < b → X) → (b ≤ a → X) → X
-cases a b f g = elim (decLt a b) [ yes h ↦ f h | no h ↦ g (omega arith) ]
-
--- false is not true
-pub no-true {ℓ} : {X : Type ℓ} → _≡_ {A = Bool} false true → X
-no-true p = absurd (let z : _≡_ {A = ℕ} 0 1 = cc in omega arith)
 
 -- ---- members of a list
 pub member-cons : (k x : ℕ) (xs : List ℕ) → member k (x ∷ xs) ≡ true → (k ≡ x) ⊎ (member k xs ≡ true)

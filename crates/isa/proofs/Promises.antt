@@ -1,1 +1,99 @@
--- placeholder
+-- What users of `isa` may cite, each law stated in full and proved where it is named. The contracts of src/lib.rt are the rest.
+-- That the classes say of all 256 bytes what document 01's table says is `agrees`, in specs/Document.antt.
+use mathlib.Core.Bool.{true, false}
+use mathlib.Core.List.{List, [], _∷_, _++_}
+use mathlib.Core.Path.{_≡_}
+use mathlib.Core.Logic.{_⊎_}
+use Prim.Native.Nat.{ℕ, _+_, _-_, _≤_, _<_}
+use lib.ListN.{length, getD}
+use Rattle.isa.specs.Classes.{classOf, row, kind, member, kind-unknown, kind-unsupported, kind-ext, kind-variable, kind-pick, kind-goto, kind-if-goto}
+use Rattle.isa.specs.Decode.{kindAt, next, picked, needed, left, heightAfter}
+use Rattle.isa.specs.Starts.{startsFrom, isStart}
+use Rattle.isa.specs.Walk.{After, Walk, weigh, one}
+use Rattle.isa.proofs.Table as table
+use Rattle.isa.proofs.Decoding as decoding
+use Rattle.isa.proofs.Following as following
+use Rattle.isa.proofs.Walking as walking
+
+-- ---- the table: operand bytes by kind, and which opcodes have a row
+pub no-operands : (op : ℕ) → kind (classOf op) ≤ kind-unsupported → getD (row (classOf op)) 0 0 ≡ 0
+no-operands = table.no-operands
+
+pub ext-operands : (op : ℕ) → kind (classOf op) ≡ kind-ext → getD (row (classOf op)) 0 0 ≡ 1
+ext-operands = table.ext-operands
+
+pub variable-operands : (op : ℕ) → kind (classOf op) ≡ kind-variable → getD (row (classOf op)) 0 0 ≡ 2
+variable-operands = table.variable-operands
+
+pub jump-operands : (op : ℕ) → kind-goto ≤ kind (classOf op) → kind (classOf op) ≤ kind-if-goto → getD (row (classOf op)) 0 0 ≡ 2
+jump-operands = table.jump-operands
+
+pub known-low : (op : ℕ) → kind-unknown < kind (classOf op) → op < 53
+known-low = table.known-low
+
+-- ---- cells: from a row and the N of pick N as the code has them
+module _ (e : List ℕ) (k : ℕ) where
+  pub needed-by : (n p : ℕ) → n ≡ getD (row (classOf (getD e k 0))) 1 0 → p ≡ picked e k → n + p ≡ needed e k
+  needed-by = decoding.needed-by e k
+
+  pub left-by : (n p : ℕ) → n ≡ getD (row (classOf (getD e k 0))) 2 0 → p ≡ picked e k → n + p ≡ left e k
+  left-by = decoding.left-by e k
+
+  pub needed-row : (n : ℕ) → n ≡ getD (row (classOf (getD e k 0))) 1 0 → kindAt e k < kind-pick → n ≡ needed e k
+  needed-row = decoding.needed-row e k
+
+  pub left-row : (n : ℕ) → n ≡ getD (row (classOf (getD e k 0))) 2 0 → kindAt e k < kind-pick → n ≡ left e k
+  left-row = decoding.left-row e k
+
+  pub after-by : (h n m : ℕ) → n ≡ needed e k → m ≡ left e k → h - n + m ≡ heightAfter e k h
+  after-by = decoding.after-by e k
+
+-- ---- members of a list of offsets
+module _ (k x : ℕ) (xs : List ℕ) where
+  pub member-cons : member k (x ∷ xs) ≡ true → (k ≡ x) ⊎ (member k xs ≡ true)
+  member-cons = following.member-cons k x xs
+
+  pub member-here : k ≡ x → member k (x ∷ xs) ≡ true
+  member-here = following.member-here k x xs
+
+  pub member-there : member k xs ≡ true → member k (x ∷ xs) ≡ true
+  member-there = following.member-there k x xs
+
+-- ---- the starts of an expression: their two equations, induction over them, and their order
+module _ (e : List ℕ) where
+  pub from-end : (i : ℕ) → length e ≤ i → startsFrom e i ≡ []
+  from-end = following.from-end e
+
+  pub from-next : (i : ℕ) → i < length e → startsFrom e i ≡ i ∷ startsFrom e (next e i)
+  from-next = following.from-next e
+
+  pub start-zero : 0 < length e → isStart e 0 ≡ true
+  start-zero = following.start-zero e
+
+  pub start-in : (k : ℕ) → isStart e k ≡ true → k < length e
+  start-in = following.start-in e
+
+  pub start-below : (k : ℕ) → length e ≤ k → isStart e k ≡ false
+  start-below = following.start-below e
+
+  pub start-next : (k : ℕ) → isStart e k ≡ true → next e k < length e → isStart e (next e k) ≡ true
+  start-next = following.start-next e
+
+  pub start-apart : (i k : ℕ) → isStart e i ≡ true → isStart e k ≡ true → k < next e i → k ≤ i
+  start-apart = following.start-apart e
+
+pub by-starts {ℓ} : (e : List ℕ) (P : ℕ → Type ℓ) → ((i : ℕ) → length e ≤ i → P i) → ((i : ℕ) → i < length e → P (next e i) → P i) → (i : ℕ) → P i
+by-starts = following.by-starts
+
+-- ---- walks
+pub walk-last : {e : List ℕ} {k h j u : ℕ} {w : List ℕ} → Walk e k h w j u → isStart e j ≡ true
+walk-last = walking.walk-last
+
+pub walk-on : {e : List ℕ} {k h j u m : ℕ} {w : List ℕ} → Walk e k h w j u → After e j m → isStart e m ≡ true → Walk e k h (w ++ (m ∷ [])) m (heightAfter e j u)
+walk-on = walking.walk-on
+
+pub weigh-on : (f : ℕ → ℕ) (w : List ℕ) (m : ℕ) → weigh f (w ++ (m ∷ [])) ≡ weigh f w + f m
+weigh-on = walking.weigh-on
+
+pub weigh-one : (w : List ℕ) → weigh one w ≡ length w
+weigh-one = walking.weigh-one

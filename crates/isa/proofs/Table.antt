@@ -5,12 +5,12 @@ use mathlib.Core.Path.{_≡_, refl, ap, sym, _∙_}
 use Prim.Native.Nat.{ℕ, zero, suc, _+_, _≤_, _<_}
 use native.Mathlib.Nat.{add-zero, zero-add, suc-add, add-suc, not-suc-le-zero, le-of-suc-le-suc}
 use native.Mathlib.Omega.{arith}
-use native.Mathlib.Decide.{ℕ-discrete}
+use native.Mathlib.Decide.{ℕ-discrete, decLt}
 use lib.ListN.{getD}
 use lib.Dec.{T, eqb, leb, ltb, eqb→eq, leb→le, ltb→lt}
 use borrow.Author.Tests.{eq-eqb, ne-eqb}
 use Rattle.encoding.proofs.Promises.{and-left, and-right}
-use Rattle.isa.specs.Classes.{Class, unknown, row, kind, member, opcodes, among, classOf, kind-unknown, kind-unsupported, kind-plain, kind-ext, kind-variable, kind-goto, kind-if-goto, kind-end, kind-pick}
+use Rattle.isa.specs.Classes.{Class, unknown, row, kind, member, opcodes, among, classOf, kind-unknown, kind-unsupported, kind-ext, kind-variable, kind-goto, kind-if-goto, kind-pick}
 use Rattle.isa.specs.Rows.{line, rowsFrom, table}
 
 -- ---- what one test shows of every opcode
@@ -51,7 +51,7 @@ unsupported-operands : (op : ℕ) → kind (classOf op) ≡ kind-unsupported →
 unfolding opcodes
 unsupported-operands = operands-of kind-unsupported 0 tt
 
-pub no-operands : (op : ℕ) → kind (classOf op) < kind-plain → getD (row (classOf op)) 0 0 ≡ 0
+pub no-operands : (op : ℕ) → kind (classOf op) ≤ kind-unsupported → getD (row (classOf op)) 0 0 ≡ 0
 no-operands op h = elim (ℕ-discrete (kind (classOf op)) kind-unknown) [ yes p ↦ unknown-operands op p | no p ↦ unsupported-operands op (omega arith) ]
 
 pub ext-operands : (op : ℕ) → kind (classOf op) ≡ kind-ext → getD (row (classOf op)) 0 0 ≡ 1
@@ -125,3 +125,7 @@ among-high n op (l ∷ ls) t h =
 pub class-high : (op : ℕ) → 53 ≤ op → classOf op ≡ unknown
 unfolding classOf opcodes
 class-high op h = among-high 53 op opcodes tt h
+
+-- a known opcode has a row
+pub known-low : (op : ℕ) → kind-unknown < kind (classOf op) → op < 53
+known-low op h = elim (decLt op 53) [ yes p ↦ p | no p ↦ absurd (omega (arith, ap kind (class-high op (omega arith)))) ]

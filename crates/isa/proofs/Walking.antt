@@ -1,14 +1,12 @@
 -- Laws of walks.
 use mathlib.Core.Bool.{true}
 use mathlib.Core.List.{List, [], _∷_, _++_}
-use mathlib.Core.Path.{_≡_, refl, ap, sym, _∙_}
-use mathlib.Core.Logic.{_≢_}
-use Prim.Native.Nat.{ℕ, zero, suc, _+_, _≤_, _<_}
-use native.Mathlib.Nat.{add-assoc, add-zero, add-comm}
+use mathlib.Core.Path.{_≡_, refl, ap, _∙_}
+use Prim.Native.Nat.{ℕ, _+_}
+use native.Mathlib.Nat.{add-zero}
 use native.Mathlib.Omega.{arith}
-use lib.ListN.{length, length-append}
-use Rattle.isa.specs.Classes.{kind-end}
-use Rattle.isa.specs.Decode.{kindAt, heightAfter}
+use lib.ListN.{length}
+use Rattle.isa.specs.Decode.{heightAfter}
 use Rattle.isa.specs.Starts.{isStart}
 use Rattle.isa.specs.Walk.{After, Walk, stop, step, weigh, one}
 

@@ -1,9 +1,8 @@
 -- The instructions by class. A class is a set of opcodes of one line of document 01's table that are alike in meaning, with the byte count
 -- inside where several opcodes differ in that alone: const8 to const64 are `constant 1` to `constant 8`.
-use mathlib.Core.Bool.{Bool, true, false, cond, _||_}
+use mathlib.Core.Bool.{Bool, false, cond, _||_}
 use mathlib.Core.List.{List, [], _∷_}
-use Prim.Native.Nat.{ℕ, zero, suc}
-use lib.ListN.{getD}
+use Prim.Native.Nat.{ℕ}
 use lib.Dec.{eqb}
 
 pub data Class : Type 0 where
@@ -57,34 +56,35 @@ row rot = 0 ∷ 3 ∷ 3 ∷ []
 row unsupported = 0 ∷ 0 ∷ 0 ∷ []
 row unknown = 0 ∷ 0 ∷ 0 ∷ []
 
--- The kind of a class: which rule of the verifier singles it out, as a number. `plain` is every other supported instruction.
+-- The kind of a class: which rule of the verifier singles it out, as a number. Those below `kind-plain` have a rule in pass 1, those above it in
+-- passes 2 and 3; `plain` is every other supported instruction.
 abbrev pub kind-unknown : ℕ
 kind-unknown = 0
 
 abbrev pub kind-unsupported : ℕ
 kind-unsupported = 1
 
-abbrev pub kind-plain : ℕ
-kind-plain = 2
-
 abbrev pub kind-ext : ℕ
-kind-ext = 3
+kind-ext = 2
 
 -- getv, setv, tracev
 abbrev pub kind-variable : ℕ
-kind-variable = 4
+kind-variable = 3
 
-abbrev pub kind-goto : ℕ
-kind-goto = 5
-
-abbrev pub kind-if-goto : ℕ
-kind-if-goto = 6
-
-abbrev pub kind-end : ℕ
-kind-end = 7
+abbrev pub kind-plain : ℕ
+kind-plain = 4
 
 abbrev pub kind-pick : ℕ
-kind-pick = 8
+kind-pick = 5
+
+abbrev pub kind-goto : ℕ
+kind-goto = 6
+
+abbrev pub kind-if-goto : ℕ
+kind-if-goto = 7
+
+abbrev pub kind-end : ℕ
+kind-end = 8
 
 abbrev pub kind : Class → ℕ
 kind binary = kind-plain

@@ -1,10 +1,10 @@
 -- Document 01, "The instruction table", line by line, and that the classes say the same of all 256 bytes.
-use mathlib.Core.Bool.{Bool, true, false, cond, _&&_, _||_}
+use mathlib.Core.Bool.{Bool, true, cond, _&&_}
 use mathlib.Core.List.{List, [], _∷_}
 use Prim.Native.Nat.{ℕ, zero, suc}
 use lib.ListN.{getD}
-use lib.Dec.{T, eqb, leb}
-use Rattle.isa.specs.Classes.{row, kind, kind-unknown, kind-unsupported, kind-plain, member, opcodes, classOf}
+use lib.Dec.{T, eqb, ltb}
+use Rattle.isa.specs.Classes.{row, kind, kind-unknown, kind-unsupported, member, opcodes, classOf}
 
 -- opcodes; operand bytes, cells needed, cells left in their place (of pick for N = 0)
 unfoldable pub document : List (List ℕ × List ℕ)
@@ -36,7 +36,7 @@ same xs ys = eqb (getD xs 0 0) (getD ys 0 0) && eqb (getD xs 1 0) (getD ys 1 0) 
 -- of an opcode in the table: it is supported, with that row; of any other: unsupported, or unknown
 abbrev pub saysOf : ℕ → List (List ℕ × List ℕ) → Bool
 saysOf op [] = cond (member op unsupportedOpcodes) (eqb (kind (classOf op)) kind-unsupported) (eqb (kind (classOf op)) kind-unknown)
-saysOf op (l ∷ ls) = cond (member op (l .0)) (leb kind-plain (kind (classOf op)) && same (row (classOf op)) (l .1)) (saysOf op ls)
+saysOf op (l ∷ ls) = cond (member op (l .0)) (ltb kind-unsupported (kind (classOf op)) && same (row (classOf op)) (l .1)) (saysOf op ls)
 
 abbrev pub below : ℕ → (ℕ → Bool) → Bool
 below zero f = true

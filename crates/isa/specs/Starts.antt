@@ -1,7 +1,6 @@
 -- The instruction starts of an expression: "from offset 0, instructions follow each other" (document 01, "Verifying", pass 1).
 use mathlib.Core.Bool.{Bool, true, false}
 use mathlib.Core.List.{List, [], _∷_}
-use mathlib.Core.Path.{_≡_}
 use Prim.Native.Nat.{ℕ, zero, suc, _-_}
 use lib.ListN.{length}
 use lib.Dec.{ltb}

@@ -1,16 +1,16 @@
 -- Laws of the reading of a hexadecimal text, for the proofs of the functions of `hex`. Assumes nothing.
-use Prim.Native.Nat.{ℕ, zero, suc, _+_, _-_, _*_, _≤_, _<_}
+use Prim.Native.Nat.{ℕ, suc, _+_, _-_, _*_, _≤_, _<_}
 use native.Mathlib.Omega.{arith}
 use native.Mathlib.Numerals.{add-one}
 use mathlib.Core.Bool.{Bool, true, false, cond}
-use mathlib.Core.Path.{_≡_, refl, sym, ap, subst, _∙_}
+use mathlib.Core.Path.{_≡_, refl, sym, ap, _∙_}
 use mathlib.Core.List.{List, [], _∷_, _++_}
 use lib.Dec.{ltb, leb, eqb}
 use lib.ListN.{length, drop, set, getD, length-set, length-append, length-drop}
 use lib.Seq.{drop-cons, drop-drop, set-at}
 use borrow.Author.Tests.{le-leb, lt-leb, lt-ltb, le-ltb, ne-eqb}
 use Rattle.report.proofs.Lists.{append-nil, append-assoc, drop-out}
-use Rattle.report.specs.Hex.{isBetween, isBlank, digitOf, afterHigh, tokenOf, End, whole, wrong, single, full, Reading, stopped, after, byToken, readFrom, readingOf, answerFor, answerOf, writtenOver}
+use Rattle.report.specs.Hex.{isBetween, isBlank, digitOf, afterHigh, tokenOf, End, whole, wrong, single, full, stopped, after, byToken, readFrom, readingOf, answerFor, answerOf, writtenOver}
 use Rattle.report.specs.declared.hex.Token.{Token}
 use Rattle.report.specs.declared.hex.Token.the-variants.{Blank, Byte, Wrong, Single}
 use Rattle.report.specs.declared.hex.Decoded.{Decoded}

@@ -1,8 +1,7 @@
 -- The definition of a reading at some texts. Assumes nothing.
-use Prim.Native.Nat.{ℕ}
 use mathlib.Core.Path.{_≡_, refl}
-use mathlib.Core.List.{List, [], _∷_}
-use Rattle.report.specs.Hex.{Reading, whole, wrong, single, full, isBlank, digitOf, afterHigh, tokenOf, readFrom, readingOf}
+use mathlib.Core.List.{[], _∷_}
+use Rattle.report.specs.Hex.{whole, wrong, single, full, isBlank, digitOf, afterHigh, tokenOf, readFrom, readingOf}
 use Rattle.report.specs.Text.{bytesOf}
 
 both-cases : readingOf (bytesOf "22 0aFf") 3 ≡ record { bytes = 0x22 ∷ 0x0a ∷ 0xff ∷ []; end = whole }

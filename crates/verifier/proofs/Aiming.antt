@@ -1,5 +1,5 @@
 -- Pass 2 as the code runs it: the table of marks, the refusal at a jump case by case, and the loop over the jumps noted.
-use mathlib.Core.Bool.{Bool, true, false, not, cond, _&&_, _||_}
+use mathlib.Core.Bool.{Bool, true, false, _||_}
 use mathlib.Core.List.{List, [], _∷_}
 use mathlib.Core.Path.{_≡_, refl, ap, sym, _∙_}
 use mathlib.Core.Logic.{_≢_}
@@ -10,16 +10,15 @@ use native.Mathlib.Omega.{arith}
 use native.Mathlib.Decide.{ℕ-discrete}
 use lib.ListN.{getD, length, set, take, drop, replicate, length-set, length-replicate, getD-replicate, drop-of-length-le}
 use lib.Seq.{getD-set-same, getD-set-other, getD-take, drop-cons, length-take-le}
-use lib.Dec.{eqb, leb}
+use lib.Dec.{eqb}
 use borrow.Author.Tests.{eq-eqb, ne-eqb, le-leb, lt-leb}
 use Rattle.isa.specs.Classes.{member}
 use Rattle.isa.specs.Decode.{operand, jumps}
 use Rattle.isa.specs.Starts.{starts, isStart}
-use Rattle.isa.proofs.Following.{member-here, member-there, start-below}
-use Rattle.verifier.specs.Fault.{Fault, none, fault, first}
+use Rattle.isa.proofs.Promises.{member-here, member-there, start-below}
+use Rattle.verifier.specs.Fault.{none, fault, first}
 use Rattle.verifier.specs.Pass2.{fault2, pass2}
 use Rattle.verifier.specs.Tables.{noMarks, marked, marksOf, jumpsAmong, jumpStarts, Noted, aimOf}
-use Rattle.verifier.specs.declared.Aim.{Aim}
 use Rattle.verifier.specs.declared.Aim.the-variants.{Fine, Fault as Aim·Fault}
 use Rattle.verifier.proofs.Decoded.{first-nil, first-ok, first-fault}
 
@@ -35,8 +34,9 @@ or-false false = refl
 mark-one : (k x : ℕ) (b : Bool) (a : List Bool) → k < length a → (b || getD (set a x true) k false) ≡ ((eqb k x || b) || getD a k false)
 mark-one k x b a h =
     elim (ℕ-discrete k x) [
-        yes p ↦ rw (eq-eqb k x p, p, getD-set-same a x true false (rw p at h)) (or-true b)
-      | no p ↦ rw (ne-eqb k x p, getD-set-other a x k true false p) ]
+      | yes p ↦ rw (eq-eqb k x p, p, getD-set-same a x true false (rw p at h)) (or-true b)
+      | no p ↦ rw (ne-eqb k x p, getD-set-other a x k true false p)
+    ]
 
 marked-at : (ks : List ℕ) (a : List Bool) (k : ℕ) → k < length a → getD (marked ks a) k false ≡ (member k ks || getD a k false)
 marked-at [] a k h = refl
@@ -82,8 +82,9 @@ module _ (e : List ℕ) where
   unfolding jumpsAmong
   first-skip k ks true j r =
       rw j (elim (ℕ-discrete (fault2 e k) 0) [
-          yes p ↦ first-ok (fault2 e) k (jumpsAmong e ks) p ∙ r ∙ sym (first-ok (fault2 e) k ks p)
-        | no p ↦ first-fault (fault2 e) k (jumpsAmong e ks) p ∙ sym (first-fault (fault2 e) k ks p) ])
+        | yes p ↦ first-ok (fault2 e) k (jumpsAmong e ks) p ∙ r ∙ sym (first-ok (fault2 e) k ks p)
+        | no p ↦ first-fault (fault2 e) k (jumpsAmong e ks) p ∙ sym (first-fault (fault2 e) k ks p)
+      ])
   first-skip k ks false j r = rw j (r ∙ sym (first-ok (fault2 e) k ks (f-other e k j)))
 
   -- the first fault among the jumps is the first among all starts
@@ -133,14 +134,15 @@ module _ {e : List ℕ} {n : ℕ} {a : List ℕ} {i : ℕ} (room : n ≤ length 
   pub aiming-turn : i < n → fault2 e (getD a i 0) ≡ 0 → Aiming e n a (i + 1)
   aiming-turn h f = record {
     within = omega arith;
-    same = sym (first-ok (fault2 e) (getD a i 0) (drop (i + 1) (take n a)) f) ∙ rw (here h) at (s .same) }
+    same = sym (first-ok (fault2 e) (getD a i 0) (drop (i + 1) (take n a)) f) ∙ rw (here h) at (s .same);
+  }
 
   pub aiming-fault : {r k : ℕ} → i < n → k ≡ getD a i 0 → r ≡ fault2 e k → r ≢ 0 → Aim·Fault r k ≡ aimOf (pass2 e)
   unfolding aimOf
   aiming-fault {r} {k} h p q b =
       let z : fault2 e (getD a i 0) ≡ r = ap (fault2 e) (sym p) ∙ sym q in
       let t : first (fault2 e) (drop i (take n a)) ≡ fault (fault2 e (getD a i 0)) (getD a i 0)
-        = rw (here h) (first-fault (fault2 e) (getD a i 0) (drop (i + 1) (take n a)) (λ y. b (sym z ∙ y))) in
+      = rw (here h) (first-fault (fault2 e) (getD a i 0) (drop (i + 1) (take n a)) (λ y. b (sym z ∙ y))) in
       let u : fault r k ≡ pass2 e = cc (s .same) in
       ap aimOf u
 

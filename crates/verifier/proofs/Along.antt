@@ -10,12 +10,12 @@ use lib.ListN.{getD, length, set, replicate, length-set, length-replicate, getD-
 use lib.Seq.{getD-set-same, getD-set-other, set-out}
 use lib.Dec.{eqb, leb}
 use borrow.Author.Tests.{eq-eqb, ne-eqb, eqb-false, ltb-false, le-leb, leb-true, leb-false, not-true}
-use Rattle.encoding.proofs.Promises.{none-holds}
 use Rattle.isa.specs.Classes.{kind-goto, kind-if-goto, kind-end}
 use Rattle.isa.specs.Decode.{kindAt, next, operand, needed, heightAfter, jumps, continues}
 use Rattle.isa.specs.Starts.{startsFrom, isStart}
 use Rattle.isa.specs.Walk.{After, target, onward, Walk, stop, step}
-use Rattle.isa.proofs.Following.{cases, no-true, by-starts, from-next, from-end, start-next, start-zero}
+use Rattle.encoding.proofs.Promises.{cases, no-true, none-holds}
+use Rattle.isa.proofs.Promises.{start-in, by-starts, from-next, from-end, start-next, start-zero}
 use Rattle.verifier.specs.Pass2.{Aims}
 use Rattle.verifier.specs.Pass3.{unreached, differing, joined, arrive, raise, atTarget, atNext, passOn, runsOff, tests3, fault3, longer, Outcome, done, stopped, heightsAlong, heights0, distances0, pass3}
 use Rattle.verifier.proofs.Decoded.{aims-target}
@@ -99,10 +99,18 @@ module _ {e : List ℕ} (aims : Aims e) where
   after-later {k} s (target l h p) = omega (arith, aims-target e k aims s l h .1)
   after-later s (onward g n p) = omega arith
 
-  -- what comes after a start without fault is a start
+  -- what comes after a start, within the bytes, is a start
+  pub later-start : {k m : ℕ} → isStart e k ≡ true → After e k m → m < length e → isStart e m ≡ true
+  later-start {k} s (target l h p) i = rw p (aims-target e k aims s l h .0)
+  later-start {k} s (onward g n p) i = rw p (start-next e k s (rw p at i))
+
+  -- what comes after a start without fault stays within the bytes
+  pub after-in : {k h m : ℕ} → Fine e k h → isStart e k ≡ true → After e k m → m < length e
+  after-in {k} t s (target l h p) = rw p (start-in e (operand e k) (aims-target e k aims s l h .0))
+  after-in {k} t s (onward g n p) = rw p (t .stays (continues-true e k g n))
+
   pub after-start : {k h m : ℕ} → Fine e k h → isStart e k ≡ true → After e k m → isStart e m ≡ true
-  after-start {k} t s (target l h p) = rw p (aims-target e k aims s l h .0)
-  after-start {k} t s (onward g n p) = rw p (start-next e k s (t .stays (continues-true e k g n)))
+  after-start t s a = later-start s a (after-in t s a)
 
   -- a walk ends where it began or at a greater offset
   pub walk-later : {k h j u : ℕ} {w : List ℕ} → Walk e k h w j u → k ≤ j

@@ -8,3 +8,5 @@ pub mod Answering
 pub mod Sound
 pub mod Complete
 pub mod Endings
+pub mod Meaning
+pub mod Promises

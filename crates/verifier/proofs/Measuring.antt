@@ -1,41 +1,33 @@
 -- Pass 3 as the code runs it: one instruction case by case, one start, and the loop.
-use mathlib.Core.Bool.{Bool, true, false, not, cond, _&&_}
-use mathlib.Core.List.{List, [], _∷_}
+use mathlib.Core.Bool.{true, false, not}
+use mathlib.Core.List.{List, _∷_}
 use mathlib.Core.Path.{_≡_, refl, ap, sym, _∙_}
 use mathlib.Core.Logic.{_≢_}
-use Prim.Native.Nat.{ℕ, _+_, _-_, _≤_, _<_, max}
+use Prim.Native.Nat.{ℕ, _+_, _≤_, _<_, max}
 use native.Mathlib.Omega.{arith}
 use native.Mathlib.Decide.{ℕ-discrete}
-use lib.ListN.{getD, length, set, replicate}
-use lib.Dec.{eqb, leb, ltb}
+use lib.ListN.{getD, length}
+use lib.Dec.{leb}
 use borrow.Author.Tests.{eq-eqb, ne-eqb, le-leb, lt-leb, lt-ltb, le-ltb}
-use Rattle.isa.specs.Classes.{classOf, row, kind-goto, kind-if-goto, kind-end, kind-pick}
-use Rattle.isa.specs.Decode.{kindAt, operandBytes, next, operand, picked, needed, left, heightAfter, jumps, continues}
-use Rattle.isa.specs.Starts.{startsFrom, isStart}
+use Rattle.isa.specs.Classes.{row, kind-goto, kind-if-goto, kind-end, kind-pick}
+use Rattle.isa.specs.Decode.{kindAt, next, operand, needed, left, heightAfter, continues}
+use Rattle.isa.specs.Rows.{IsRow}
+use Rattle.isa.specs.declared.Row.{Row}
+use Rattle.isa.specs.Starts.{startsFrom}
 use Rattle.isa.specs.Walk.{one}
-use Rattle.isa.proofs.Following.{from-end, from-next, start-in, start-next, start-zero}
+use Rattle.isa.proofs.Promises.{known-low, needed-row, left-row, from-end, from-next, start-in, start-next, start-zero}
 use Rattle.verifier.specs.Pass1.{Decodes}
 use Rattle.verifier.specs.Pass2.{Aims}
-use Rattle.verifier.specs.Pass3.{unreached, differing, arrive, raise, atTarget, atNext, passOn, runsOff, fault3, longer, Outcome, done, stopped, heightsAlong, heights0, distances0, pass3}
-use Rattle.verifier.specs.Tables.{effectOf, measureOf, Passing, AtMost, Stepped}
+use Rattle.verifier.specs.Pass3.{unreached, differing, arrive, raise, atTarget, atNext, passOn, runsOff, fault3, longer, stopped, heightsAlong, heights0, distances0, pass3}
+use Rattle.verifier.specs.Tables.{effectOf, measureOf, Passing, Arrived, AtMost, Stepped}
 use Rattle.verifier.specs.declared.Effect.{Effect}
 use Rattle.verifier.specs.declared.Effect.the-variants.{Height, Fault as Effect·Fault}
-use Rattle.verifier.specs.declared.Measure.{Measure}
 use Rattle.verifier.specs.declared.Measure.the-variants.{Fine, Fault as Measure·Fault}
 use Rattle.verifier.specs.declared.Step.{Step}
-use Rattle.verifier.proofs.Decoded.{decodes-fits, aims-target}
-use Rattle.verifier.proofs.Along.{along-nil, along-skip, along-pass, along-stop, fine, continues-true, raises, cell-kept, distances0-at}
+use Rattle.verifier.proofs.Decoded.{decodes-fits, decodes-known, aims-target}
+use Rattle.verifier.proofs.Along.{along-nil, along-skip, along-pass, along-stop, fine, raises, cell-kept, distances0-at}
 
 module _ (e : List ℕ) (k : ℕ) where
-  -- ---- the N of pick N
-  pub picked-pick : (x : ℕ) → x ≡ operand e k → kindAt e k ≡ kind-pick → x ≡ picked e k
-  unfolding picked
-  picked-pick x p h = rw (eq-eqb (kindAt e k) kind-pick h) p
-
-  pub picked-none : kindAt e k ≢ kind-pick → 0 ≡ picked e k
-  unfolding picked
-  picked-none h = rw (ne-eqb (kindAt e k) kind-pick h)
-
   -- ---- running on past the last byte
   pub off-goto : kindAt e k ≡ kind-goto → false ≡ runsOff e k
   unfolding runsOff
@@ -79,28 +71,23 @@ module _ (e : List ℕ) (k : ℕ) where
     unfolding effectOf
     effect-faults r p =
         elim (ℕ-discrete (fault3 e k h) 0) [
-            yes q ↦ absurd (let z : _≡_ {A = ℕ} 0 1 = cc (rw (eq-eqb (fault3 e k h) 0 q) at p) in omega arith)
-          | no q ↦ let z : r ≡ fault3 e k h = cc (rw (ne-eqb (fault3 e k h) 0 q) at p) in (sym z, λ y. q (sym z ∙ y)) ]
+          | yes q ↦ absurd (let z : _≡_ {A = ℕ} 0 1 = cc (rw (eq-eqb (fault3 e k h) 0 q) at p) in omega arith)
+          | no q ↦ let z : r ≡ fault3 e k h = cc (rw (ne-eqb (fault3 e k h) 0 q) at p) in (sym z, λ y. q (sym z ∙ y))
+        ]
 
     pub effect-passes : (x : ℕ) → Height x ≡ effectOf e k h → (fault3 e k h ≡ 0) × (x ≡ heightAfter e k h)
     unfolding effectOf
     effect-passes x p =
         elim (ℕ-discrete (fault3 e k h) 0) [
-            yes q ↦ (q, cc (rw (eq-eqb (fault3 e k h) 0 q) at p))
-          | no q ↦ absurd (let z : _≡_ {A = ℕ} 0 1 = cc (rw (ne-eqb (fault3 e k h) 0 q) at p) in omega arith) ]
+          | yes q ↦ (q, cc (rw (eq-eqb (fault3 e k h) 0 q) at p))
+          | no q ↦ absurd (let z : _≡_ {A = ℕ} 0 1 = cc (rw (ne-eqb (fault3 e k h) 0 q) at p) in omega arith)
+        ]
 
-  -- the height after an instruction and the cells needed, from what the code computes
-  pub needed-by : (n p : ℕ) → n ≡ getD (row (classOf (getD e k 0))) 1 0 → p ≡ picked e k → n + p ≡ needed e k
-  unfolding needed
-  needed-by n p a b = cc
-
-  pub after-by : (h n m : ℕ) → n ≡ needed e k → m ≡ left e k → h - n + m ≡ heightAfter e k h
-  unfolding heightAfter
-  after-by h n m a b = cc
-
-  pub left-by : (n p : ℕ) → n ≡ getD (row (classOf (getD e k 0))) 2 0 → p ≡ picked e k → n + p ≡ left e k
-  unfolding left
-  left-by n p a b = cc
+  -- the effect of an instruction below pick, from what the code hands to `effect_by`: x is the next offset
+  pub plain-effect : {r : Row} {f : Effect} (h x : ℕ) → IsRow (getD e k 0) r → kindAt e k < kind-pick
+      → ((d : List ℕ) (j : ℕ) → r .needed ≡ needed d j → r .left ≡ left d j → leb (length e) x ≡ runsOff d j → f ≡ effectOf d j h)
+      → x ≡ next e k → f ≡ effectOf e k h
+  plain-effect h x i p t q = t e k (needed-row e k _ (i .needed-is) p) (left-row e k _ (i .left-is) p) (off-other x (omega arith) (omega arith) q)
 
   -- ---- passing on, at one table
   module _ (f : ℕ → List ℕ → List ℕ) (l : List ℕ) where
@@ -136,6 +123,9 @@ module _ {e : List ℕ} {k : ℕ} (p : Passing e k) where
   pub passing-fits : next e k ≤ length e
   passing-fits = decodes-fits e k (p .decodes) (p .start)
 
+  pub passing-known : getD e k 0 < 53
+  passing-known = known-low (getD e k 0) (omega (arith, decodes-known e k (p .decodes) (p .start)))
+
   pub passing-target : kind-goto ≤ kindAt e k → kindAt e k ≤ kind-if-goto → operand e k < 1024
   passing-target a b = omega (arith, p .short, start-in e (operand e k) (aims-target e k (p .aims) (p .start) a b .0))
 
@@ -148,23 +138,28 @@ module _ (e : List ℕ) (k : ℕ) (hs ds : List ℕ) (g l : ℕ) where
   pub stepped-skip : getD hs k 0 ≡ unreached → Stepped e k hs ds g l (record { fault = 0; greatest = g; longest = l }) hs ds
   stepped-skip p = record { same = λ ks. along-skip one e k ks hs ds g l p; low = λ b a n. a }
 
-  module _ (n : getD hs k 0 ≢ unreached) where
-    pub stepped-fault : (r : ℕ) → Effect·Fault r ≡ effectOf e k (getD hs k 0) → Stepped e k hs ds g l (record { fault = r; greatest = g; longest = l }) hs ds
-    stepped-fault r p =
-        let q = effect-faults e k (getD hs k 0) r p in
-        record {
-          same = λ ks. rw (ne-eqb r 0 (q .1)) (along-stop one e k ks hs ds g l n (λ z. q .1 (sym (q .0) ∙ z)) ∙ ap (λ (x : ℕ). stopped x k) (q .0));
-          low = λ b a m. a }
+  module _ {h : ℕ} (a : Arrived hs ds k h) where
+    unfound : getD hs k 0 ≢ unreached
+    unfound z = a .reached (sym (a .height) ∙ z)
 
-    pub stepped-pass : (h g′ l′ : ℕ) (hs′ ds′ : List ℕ) → Height h ≡ effectOf e k (getD hs k 0)
-        → hs′ ≡ passOn e k (arrive h) hs → ds′ ≡ passOn e k (raise (getD ds k 0 + 1)) ds
-        → g′ ≡ max g h → l′ ≡ longer e k (getD ds k 0 + 1) l
-        → Stepped e k hs ds g l (record { fault = 0; greatest = g′; longest = l′ }) hs′ ds′
-    stepped-pass h g′ l′ hs′ ds′ p a b c d =
-        let q = effect-passes e k (getD hs k 0) h p in
+    pub stepped-fault : (r : ℕ) → Effect·Fault r ≡ effectOf e k h → Stepped e k hs ds g l (record { fault = r; greatest = g; longest = l }) hs ds
+    stepped-fault r p =
+        let q = effect-faults e k (getD hs k 0) r (p ∙ ap (effectOf e k) (sym (a .height))) in
         record {
-          same = λ ks. rw (a, b, c, d, q .1) (along-pass one e k ks hs ds g l n (q .0));
-          low = λ m s t j. rw b (cell-kept (raises (getD ds k 0 + 1)) e k ds j (λ (x : ℕ). x ≤ m) (λ _ c r. omega arith) (s j)) }
+          same = λ ks. rw (ne-eqb r 0 (q .1)) (along-stop one e k ks hs ds g l unfound (λ z. q .1 (sym (q .0) ∙ z)) ∙ ap (λ (x : ℕ). stopped x k) (q .0));
+          low = λ b s m. s;
+        }
+
+    pub stepped-pass : (x g′ l′ : ℕ) (hs′ ds′ : List ℕ) → Height x ≡ effectOf e k h
+        → hs′ ≡ passOn e k (arrive x) hs → ds′ ≡ passOn e k (raise (getD ds k 0 + 1)) ds
+        → g′ ≡ max g x → l′ ≡ longer e k (getD ds k 0 + 1) l
+        → Stepped e k hs ds g l (record { fault = 0; greatest = g′; longest = l′ }) hs′ ds′
+    stepped-pass x g′ l′ hs′ ds′ p m n c d =
+        let q = effect-passes e k (getD hs k 0) x (p ∙ ap (effectOf e k) (sym (a .height))) in
+        record {
+          same = λ ks. rw (m, n, c, d, q .1) (along-pass one e k ks hs ds g l unfound (q .0));
+          low = λ b s t j. rw n (cell-kept (raises (getD ds k 0 + 1)) e k ds j (λ (y : ℕ). y ≤ b) (λ _ y r. omega arith) (s j));
+        }
 
 -- ---- the loop stands at offset i
 pub record Measuring (e : List ℕ) (i : ℕ) (hs ds : List ℕ) (g l : ℕ) : Type 0 where
@@ -179,7 +174,8 @@ measuring-start e l d a = record {
   within = omega arith;
   here = λ h. record { short = l; decodes = d; aims = a; start = start-zero e h };
   low = λ j. omega (arith, distances0-at j);
-  same = refl }
+  same = refl;
+}
 
 module _ {e : List ℕ} {i : ℕ} {hs ds : List ℕ} {g l : ℕ} (s : Measuring e i hs ds g l) where
   pub measuring-turn : {r : Step} {hs′ ds′ : List ℕ} → i < length e → Stepped e i hs ds g l r hs′ ds′ → r .fault ≡ 0
@@ -187,19 +183,20 @@ module _ {e : List ℕ} {i : ℕ} {hs ds : List ℕ} {g l : ℕ} (s : Measuring 
   measuring-turn {r} {hs′} {ds′} h t z =
       let p = s .here h in
       let q : heightsAlong one e (i ∷ startsFrom e (next e i)) hs ds g l ≡ heightsAlong one e (startsFrom e (next e i)) hs′ ds′ (r .greatest) (r .longest)
-        = rw z at (t .same (startsFrom e (next e i))) in
+      = rw z at (t .same (startsFrom e (next e i))) in
       record {
         within = passing-fits p;
         here = λ m. record { short = p .short; decodes = p .decodes; aims = p .aims; start = start-next e i (p .start) m };
         low = t .low (next e i) (λ j. omega (arith, s .low j)) (omega (arith, s .low i));
-        same = sym q ∙ rw (from-next e i h) at (s .same) }
+        same = sym q ∙ rw (from-next e i h) at (s .same);
+      }
 
   pub measuring-fault : {r : Step} {hs′ ds′ : List ℕ} → i < length e → Stepped e i hs ds g l r hs′ ds′ → r .fault ≢ 0
       → Measure·Fault (r .fault) i ≡ measureOf (pass3 one e)
   unfolding measureOf
   measuring-fault {r} h t z =
       let q : stopped (r .fault) i ≡ pass3 one e
-        = rw (ne-eqb (r .fault) 0 z) at (sym (t .same (startsFrom e (next e i)))) ∙ rw (from-next e i h) at (s .same) in
+      = rw (ne-eqb (r .fault) 0 z) at (sym (t .same (startsFrom e (next e i)))) ∙ rw (from-next e i h) at (s .same) in
       ap measureOf q
 
   pub measuring-end : length e ≤ i → Fine g l ≡ measureOf (pass3 one e)

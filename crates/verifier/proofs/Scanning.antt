@@ -1,25 +1,23 @@
 -- Pass 1 as the code runs it: the refusal at an offset case by case, and the loop with its two tables.
-use mathlib.Core.Bool.{Bool, true, false, cond, _&&_, _||_}
+use mathlib.Core.Bool.{Bool, true, false, cond}
 use mathlib.Core.List.{List, [], _∷_, _++_, append-assoc, append-nil}
 use mathlib.Core.Path.{_≡_, refl, ap, sym, _∙_}
 use mathlib.Core.Logic.{_≢_}
 use Prim.Native.Nat.{ℕ, suc, _+_, _*_, _≤_, _<_}
-use native.Mathlib.Nat.{zero-add, add-zero}
+use native.Mathlib.Nat.{zero-add}
 use native.Mathlib.Numerals.{add-one}
 use native.Mathlib.Omega.{arith}
 use lib.ListN.{getD, length, set, take, length-set}
-use lib.Seq.{take-suc-set, take-set-le}
-use lib.Dec.{ltb, eqb, leb}
+use lib.Seq.{take-suc-set}
 use borrow.Author.Tests.{eq-eqb, ne-eqb, lt-ltb, le-ltb, le-leb, lt-leb}
-use Rattle.isa.specs.Classes.{kind-unknown, kind-unsupported, kind-plain, kind-ext, kind-variable, kind-goto, kind-if-goto}
+use Rattle.isa.specs.Classes.{kind-unknown, kind-unsupported, kind-ext, kind-variable, kind-goto, kind-if-goto}
 use Rattle.isa.specs.Decode.{kindAt, next, operand, isJump, jumps}
 use Rattle.isa.specs.Starts.{starts, startsFrom}
-use Rattle.isa.proofs.Table.{no-operands, ext-operands, variable-operands, jump-operands}
-use Rattle.isa.proofs.Following.{cases, no-true, from-end, from-next}
-use Rattle.verifier.specs.Fault.{Fault, none, fault, first}
-use Rattle.verifier.specs.Pass1.{operandWrong, fault1, pass1, Decodes}
-use Rattle.verifier.specs.Tables.{noMarks, marked, marksOf, jumpsAmong, jumpStarts, Noted, Notes, Scanned, noted, counted}
-use Rattle.verifier.specs.declared.Scan.{Scan}
+use Rattle.encoding.proofs.Promises.{cases, no-true}
+use Rattle.isa.proofs.Promises.{no-operands, jump-operands, from-end, from-next}
+use Rattle.verifier.specs.Fault.{fault, first}
+use Rattle.verifier.specs.Pass1.{operandWrong, fault1, pass1}
+use Rattle.verifier.specs.Tables.{noMarks, marked, marksOf, jumpsAmong, jumpStarts, Notes, Scanned, noted, counted}
 use Rattle.verifier.specs.declared.Scan.the-variants.{Count}
 use Rattle.verifier.proofs.Decoded.{first-nil, first-ok, first-fault, clear-fits}
 
@@ -37,11 +35,11 @@ module _ (e : List ℕ) (i : ℕ) where
   pub f-short : i < length e → length e < next e i → 4 ≡ fault1 e i
   unfolding fault1
   f-short l h =
-      cases (kindAt e i) kind-plain
-      (λ p. absurd (omega (arith, no-operands (getD e i 0) p)))
+      cases kind-unsupported (kindAt e i)
       (λ p. rw (ne-eqb (kindAt e i) kind-unknown (omega arith), ne-eqb (kindAt e i) kind-unsupported (omega arith), lt-ltb (length e) (next e i) h))
+      (λ p. absurd (omega (arith, no-operands (getD e i 0) p)))
 
-  module _ (fits : next e i ≤ length e) (known : kind-plain ≤ kindAt e i) where
+  module _ (fits : next e i ≤ length e) (known : kind-unsupported < kindAt e i) where
     f-operand : cond (operandWrong e i) 5 0 ≡ fault1 e i
     unfolding fault1
     f-operand = rw (ne-eqb (kindAt e i) kind-unknown (omega arith), ne-eqb (kindAt e i) kind-unsupported (omega arith), le-ltb (length e) (next e i) fits)
@@ -61,7 +59,6 @@ module _ (e : List ℕ) (i : ℕ) where
 
     pub f-variable-low : kindAt e i ≡ kind-variable → operand e i ≤ 63 → 0 ≡ fault1 e i
     f-variable-low k h = rw (k, le-ltb 63 (operand e i) h) at (f-operand fits (omega arith))
-
 
 -- ---- noting a jump
 module _ (kind : ℕ) {at n : ℕ} {a : List ℕ} where
@@ -98,7 +95,8 @@ scanning-start e a l = record {
   same = refl;
   count = zero-add (length (starts e));
   marks = refl;
-  jumped = refl }
+  jumped = refl;
+}
 
 -- a jump has three bytes, so that there is room to note it
 pub note-room : {e : List ℕ} {i n j : ℕ} {m : List Bool} {a : List ℕ} → Scanning e i n j m a → length e ≤ 1024 → fault1 e i ≡ 0
@@ -143,7 +141,8 @@ module _ {e : List ℕ} {i n j : ℕ} {m : List Bool} {a : List ℕ} (s : Scanni
         same = rw (from-next e i h, first-ok (fault1 e) i ks f) at (s .same);
         count = let q : n + suc (length ks) ≡ length (starts e) = rw (from-next e i h) at (s .count) in omega arith;
         marks = rw (from-next e i h) at (s .marks);
-        jumped = sym (jumped-by e i j a ks some (jumps e i) refl free) ∙ rw (from-next e i h) at (s .jumped) }
+        jumped = sym (jumped-by e i j a ks some (jumps e i) refl free) ∙ rw (from-next e i h) at (s .jumped);
+      }
 
   pub scanning-fault : (r : ℕ) → i < length e → r ≡ fault1 e i → r ≢ 0 → pass1 e ≡ fault r i
   scanning-fault r h q b =
@@ -152,10 +151,12 @@ module _ {e : List ℕ} {i n j : ℕ} {m : List Bool} {a : List ℕ} (s : Scanni
   pub scanning-end : length e ≤ 1024 → length e ≤ i → Scanned e (Count n j) m a
   unfolding jumpsAmong
   scanning-end l h = (
-      sym (s .same) ∙ rw (from-end e i h) (first-nil (fault1 e)),
-      (let q : n + 0 ≡ length (starts e) = rw (from-end e i h) at (s .count) in omega arith),
-      rw (from-end e i h) at (s .marks),
-      record {
-        few = omega (arith, s .few-jumps, s .within);
-        room = omega (arith, s .long, s .few-jumps, s .within);
-        same = sym (append-nil (take j a)) ∙ rw (from-end e i h) at (s .jumped) })
+    sym (s .same) ∙ rw (from-end e i h) (first-nil (fault1 e)),
+    (let q : n + 0 ≡ length (starts e) = rw (from-end e i h) at (s .count) in omega arith),
+    rw (from-end e i h) at (s .marks),
+    record {
+      few = omega (arith, s .few-jumps, s .within);
+      room = omega (arith, s .long, s .few-jumps, s .within);
+      same = sym (append-nil (take j a)) ∙ rw (from-end e i h) at (s .jumped);
+    },
+  )

@@ -11,8 +11,8 @@ use Rattle.isa.specs.Classes.{kind-end}
 use Rattle.isa.specs.Decode.{kindAt, next, heightAfter}
 use Rattle.isa.specs.Starts.{isStart}
 use Rattle.isa.specs.Walk.{After, Walk, stop, step, weigh}
-use Rattle.isa.proofs.Following.{cases, start-in, start-apart}
-use Rattle.isa.proofs.Walking.{walk-last}
+use Rattle.encoding.proofs.Promises.{cases}
+use Rattle.isa.proofs.Promises.{start-in, start-apart, walk-last}
 use Rattle.verifier.specs.Pass2.{Aims}
 use Rattle.verifier.specs.Pass3.{unreached, differing, joined, arrive, raise, passOn, fault3, longer, done, stopped, heights0, distances0, pass3}
 use Rattle.verifier.specs.Acceptance.{WalksFit}

@@ -6,3 +6,4 @@ pub mod Pass3
 pub mod Verdict
 pub mod Acceptance
 pub mod Tables
+pub mod Examples

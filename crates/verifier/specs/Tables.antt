@@ -2,16 +2,17 @@
 use mathlib.Core.Bool.{Bool, true, false, cond}
 use mathlib.Core.List.{List, [], _∷_}
 use mathlib.Core.Path.{_≡_}
-use Prim.Native.Nat.{ℕ, _+_, _≤_, _<_}
+use mathlib.Core.Logic.{_≢_}
+use Prim.Native.Nat.{ℕ, _+_, _≤_}
 use lib.ListN.{getD, length, set, take, replicate}
 use lib.Dec.{eqb}
-use Rattle.isa.specs.Decode.{jumps, next, heightAfter}
+use Rattle.isa.specs.Decode.{jumps, heightAfter}
 use Rattle.isa.specs.Starts.{starts, isStart}
 use Rattle.isa.specs.Walk.{one}
 use Rattle.verifier.specs.Fault.{Fault, none, fault}
-use Rattle.verifier.specs.Pass1.{pass1, Decodes, fault1}
-use Rattle.verifier.specs.Pass2.{pass2, Aims}
-use Rattle.verifier.specs.Pass3.{Outcome, done, stopped, heightsAlong, fault3}
+use Rattle.verifier.specs.Pass1.{pass1, Decodes}
+use Rattle.verifier.specs.Pass2.{Aims}
+use Rattle.verifier.specs.Pass3.{unreached, Outcome, done, stopped, heightsAlong, fault3}
 use Rattle.verifier.specs.declared.Scan.{Scan}
 use Rattle.verifier.specs.declared.Scan.the-variants.{Count as Scan·Count, Fault as Scan·Fault}
 use Rattle.verifier.specs.declared.Aim.{Aim}
@@ -83,6 +84,12 @@ pub record Passing (e : List ℕ) (k : ℕ) : Type 0 where
   pub decodes : Decodes e
   pub aims : Aims e
   pub start : isStart e k ≡ true
+
+-- the start k is reached, with height h, and its distance is small
+pub record Arrived (hs ds : List ℕ) (k h : ℕ) : Type 0 where
+  pub height : getD hs k 0 ≡ h
+  pub reached : h ≢ unreached
+  pub near : getD ds k 0 ≤ 1024
 
 -- no distance is greater than b
 abbrev pub AtMost : ℕ → List ℕ → Type 0

@@ -10,7 +10,7 @@ ghost use Rattle.verifier.specs.Tables.{noMarks, Notes, Scanned};
 use crate::Scan;
 use isa::Row;
 
-// The refusal of pass 1 at `at`, or 0. Most instructions are plain, so that is tried first: unknown and unsupported ones have no operand bytes.
+// The refusal of pass 1 at `at`, or 0. Operands may be tried first: unknown and unsupported opcodes have none.
 fn fault_at(row: Row, e: &[u8], at: usize) -> u8
     requires { ⌜ at < length (now e) ⌝ ∗ ⌜ IsRow (getD (now e) at 0) row ⌝ }
     ensures { λ r. ⌜ r ≡ fault1 (now (e .entry)) at ⌝ }
@@ -18,7 +18,7 @@ fn fault_at(row: Row, e: &[u8], at: usize) -> u8
     if e.len() - at <= row.operands as usize {
         return 4;
     }
-    if row.kind == isa::PLAIN {
+    if isa::PLAIN <= row.kind {
         return 0;
     }
     if row.kind == isa::UNKNOWN {
@@ -33,11 +33,8 @@ fn fault_at(row: Row, e: &[u8], at: usize) -> u8
         }
         return 0;
     }
-    if row.kind == isa::VARIABLE {
-        if 63 < isa::operand_at(e, at, 2) {
-            return 5;
-        }
-        return 0;
+    if 63 < isa::operand_at(e, at, 2) {
+        return 5;
     }
     0
 }
@@ -57,7 +54,12 @@ fn note(kind: u8, at: usize, jumps: &mut [u16; 341], count: usize) -> usize
     count + 1
 }
 
-pub fn scan(rows: &[[u8; 4]; 53], e: &[u8], marks: &mut [bool; 1024], jumps: &mut [u16; 341]) -> Scan
+pub fn scan(
+    rows: &[[u8; 4]; 53],
+    e: &[u8],
+    marks: &mut [bool; 1024],
+    jumps: &mut [u16; 341],
+) -> Scan
     requires { ⌜ now rows ≡ table ⌝ ∗ ⌜ length (now e) ≤ 1024 ⌝ ∗ ⌜ now marks ≡ noMarks ⌝ ∗ ⌜ length (now jumps) ≡ 341 ⌝ }
     ensures { λ r. ⌜ Scanned (now (e .entry)) r (now (marks .exit)) (now (jumps .exit)) ⌝ }
 {

@@ -4,9 +4,6 @@ use Prim.Native.Nat.{_-_}
 use Rattle.encoding.proofs.Reading.{Reading, reading-start, reading-room, reading-turn, reading-end}
 use Rattle.encoding.proofs.big_endian.Statement.{statement}
 use Rattle.encoding.proofs.big_endian.Tie as tie
-use Rattle.encoding.proofs.big_endian.Reads as reads
-use Rattle.encoding.proofs.big_endian.Lts as lts
-use Rattle.encoding.proofs.wide.Reads as wide-reads
 
 abbrev Inv-loop : tie.InvT-loop
 Inv-loop bytes at count number₀ read₀ number read = Reading bytes at count number read
@@ -14,43 +11,33 @@ Inv-loop bytes at count number₀ read₀ number read = Reading bytes at count n
 abbrev μ-loop : tie.MeasureT-loop
 μ-loop bytes at count number₀ read₀ number read = count - read
 
--- src/lib.rt:21:5
 loop-holds : tie.Need-loop-holds Inv-loop μ-loop
 loop-holds c = reading-start (c .before .args .bytes .now) (c .before .args .at) (c .before .args .count)
 
--- src/lib.rt:22:18
 mul-number : tie.Need-mul-number Inv-loop μ-loop
 mul-number c = omega (arith, reading-room (c .before .loop .inv) (c .before .before .before .pre .0) (c .loop-test .taken))
 
--- src/lib.rt:22:44
 add-wide : tie.Need-add-wide Inv-loop μ-loop
 add-wide c = search needs
 
--- src/lib.rt:22:38
 shared-slice-read-wide : tie.Need-shared-slice-read-wide Inv-loop μ-loop
 shared-slice-read-wide c = search needs
 
--- src/lib.rt:22:33
 wide-requires : tie.Need-wide-requires Inv-loop μ-loop
 wide-requires c κs = search needs
 
--- src/lib.rt:22:18
 add-number : tie.Need-add-number Inv-loop μ-loop
 add-number c = omega (arith, reading-room (c .before .before .before .loop .inv) (c .before .before .before .before .before .pre .0) (c .before .before .loop-test .taken), c .wide .ensures)
 
--- src/lib.rt:23:9
 add-read : tie.Need-add-read Inv-loop μ-loop
 add-read c = search needs
 
--- src/lib.rt:21:5
 loop-less : tie.Need-loop-less Inv-loop μ-loop
 loop-less c = search needs
 
--- src/lib.rt:21:5
 loop-again : tie.Need-loop-again Inv-loop μ-loop
 loop-again c = reading-turn (c .before .before .before .loop .inv) (c .before .before .loop-test .taken) (c .wide .ensures .0) (c .wide .ensures .1)
 
--- src/lib.rt:15:1
 returns : tie.Need-returns Inv-loop μ-loop
 returns c = reading-end (c .before .loop .inv) (c .loop-test .left)
 

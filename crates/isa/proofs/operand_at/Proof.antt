@@ -1,6 +1,6 @@
 use native.Mathlib.Omega.{arith}
 use mathlib.Core.Path.{ap, _∙_}
-use Prim.Native.Nat.{ℕ, _+_}
+use Prim.Native.Nat.{_+_}
 use lib.ListN.{getD}
 use Rattle.encoding.specs.BigEndian.{bigEndian}
 use Rattle.isa.specs.Decode.{operand}
@@ -8,19 +8,13 @@ use Rattle.isa.proofs.Table.{operands-most}
 use borrow.Author.Needs.{needs}
 use Rattle.isa.proofs.operand_at.Statement.{statement}
 use Rattle.isa.proofs.operand_at.Tie as tie
-use Rattle.isa.proofs.operand_at.Reads as reads
-use Rattle.isa.proofs.operand_at.Lts as lts
-use Rattle.encoding.proofs.big_endian.Reads as big-endian-reads
 
--- src/lib.rt:112:29
 add-big-endian : tie.Need-add-big-endian
 add-big-endian c = search needs
 
--- src/lib.rt:112:5
 big-endian-requires : tie.Need-big-endian-requires
 big-endian-requires c κs = let a = c .before .args in (omega (arith, operands-most (getD (a .e .now) (a .at) 0)), omega arith)
 
--- src/lib.rt:108:1
 returns : tie.Need-returns
 unfolding operand
 returns c = let a = c .before .before .args in (c .big-endian .ensures .0 ∙ ap (bigEndian (a .e .now) (a .at + 1)) (c .before .before .pre .0), c .big-endian .ensures .1)

@@ -1,7 +1,6 @@
 -- `report::hex::decode` meets its contract. The loop's invariant: what was read stands in the buffer, and the reading of the whole text is that
 -- followed by the reading of the rest. The measure is what is left of the text. Assumes nothing.
 use borrow.Author.Needs.{needs}
-use native.Mathlib.Omega.{arith}
 use Prim.Native.Nat.{_-_}
 use mathlib.Core.Path.{sym, _∙_}
 use lib.ListN.{length}

@@ -1,16 +1,10 @@
 use borrow.Author.Needs.{needs}
 use native.Mathlib.Omega.{arith}
-use mathlib.Core.Path.{_≡_, refl, ap, sym, _∙_}
 use Prim.Native.Nat.{_-_}
 use lib.ListN.{length}
 use Rattle.verifier.proofs.Scanning.{Scanning, scanning-start, scanning-turn, scanning-fault, scanning-end, note-room}
 use Rattle.verifier.proofs.pass1.scan.Statement.{statement}
 use Rattle.verifier.proofs.pass1.scan.Tie as tie
-use Rattle.verifier.proofs.pass1.scan.Reads as reads
-use Rattle.verifier.proofs.pass1.scan.Lts as lts
-use Rattle.isa.proofs.row_of.Reads as row-of-reads
-use Rattle.verifier.proofs.pass1.fault_at.Reads as fault-at-reads
-use Rattle.verifier.proofs.pass1.note.Reads as note-reads
 
 abbrev Inv-loop : tie.InvT-loop
 Inv-loop rows e marks₀ jumps₀ at₀ count₀ noted₀ marks jumps at count noted = Scanning e at count noted marks jumps
@@ -18,55 +12,42 @@ Inv-loop rows e marks₀ jumps₀ at₀ count₀ noted₀ marks jumps at count n
 abbrev μ-loop : tie.MeasureT-loop
 μ-loop rows e marks₀ jumps₀ at₀ count₀ noted₀ marks jumps at count noted = length e - at
 
--- src/pass1.rt:68:5
 loop-holds : tie.Need-loop-holds Inv-loop μ-loop
 loop-holds c = rw (c .before .pre .1 .1 .0) (scanning-start _ _ (c .before .pre .1 .1 .1))
 
--- src/pass1.rt:69:37
 shared-slice-read-row-of : tie.Need-shared-slice-read-row-of Inv-loop μ-loop
 shared-slice-read-row-of c = search needs
 
--- src/pass1.rt:69:13
 row-of-requires : tie.Need-row-of-requires Inv-loop μ-loop
 row-of-requires c κs = search needs
 
--- src/pass1.rt:70:13
 fault-at-requires : tie.Need-fault-at-requires Inv-loop μ-loop
 fault-at-requires c κs = search needs
 
--- src/pass1.rt:72:13
 returns : tie.Need-returns Inv-loop μ-loop
 returns c = scanning-fault (c .before .before .before .before .before .loop .inv) _ (search needs) (c .before .fault-at .ensures) (c .if1 .taken)
 
--- src/pass1.rt:74:9
 element-write-marks : tie.Need-element-write-marks Inv-loop μ-loop
 element-write-marks c = search needs
 
--- src/pass1.rt:75:9
 note-requires : tie.Need-note-requires Inv-loop μ-loop
 note-requires c κs = let s = c .before .before .before .before .before .before .loop .inv in (omega arith, λ p q. note-room s (omega arith) (omega arith) (omega arith) (omega arith))
 
--- src/pass1.rt:76:14
 add-at : tie.Need-add-at Inv-loop μ-loop
 add-at c = search needs
 
--- src/pass1.rt:76:23
 cast-at : tie.Need-cast-at Inv-loop μ-loop
 cast-at c = search needs
 
--- src/pass1.rt:76:14
 add-at-2 : tie.Need-add-at-2 Inv-loop μ-loop
 add-at-2 c = search needs
 
--- src/pass1.rt:77:9
 add-count : tie.Need-add-count Inv-loop μ-loop
 add-count c = search needs
 
--- src/pass1.rt:68:5
 loop-less : tie.Need-loop-less Inv-loop μ-loop
 loop-less c = search needs
 
--- src/pass1.rt:68:5
 loop-again : tie.Need-loop-again Inv-loop μ-loop
 loop-again c =
     let f = c .before .before .before .before in
@@ -75,7 +56,6 @@ loop-again c =
     let s = f .before .before .before .before .loop .inv in
     rw (r .operands-is, n .count-is, n .table-is, r .kind-is) (scanning-turn s (search needs) (search needs) (omega arith))
 
--- src/pass1.rt:61:1
 returns-2 : tie.Need-returns-2 Inv-loop μ-loop
 returns-2 c = scanning-end (c .before .loop .inv) (search needs) (search needs)
 

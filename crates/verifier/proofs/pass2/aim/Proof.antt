@@ -1,14 +1,11 @@
-use Rattle.isa.proofs.Following.{start-in}
 use borrow.Author.Needs.{needs}
 use native.Mathlib.Omega.{arith}
-use mathlib.Core.Path.{refl, sym}
+use mathlib.Core.Path.{refl}
 use Prim.Native.Nat.{_-_}
+use Rattle.isa.proofs.Promises.{start-in}
 use Rattle.verifier.proofs.Aiming.{Aiming, aiming-start, aiming-turn, aiming-fault, aiming-end, noted-at}
 use Rattle.verifier.proofs.pass2.aim.Statement.{statement}
 use Rattle.verifier.proofs.pass2.aim.Tie as tie
-use Rattle.verifier.proofs.pass2.aim.Reads as reads
-use Rattle.verifier.proofs.pass2.aim.Lts as lts
-use Rattle.verifier.proofs.pass2.fault_at.Reads as fault-at-reads
 
 abbrev Inv-loop : tie.InvT-loop
 Inv-loop e marks jumps count i₀ i = Aiming e count jumps i
@@ -16,43 +13,33 @@ Inv-loop e marks jumps count i₀ i = Aiming e count jumps i
 abbrev μ-loop : tie.MeasureT-loop
 μ-loop e marks jumps count i₀ i = count - i
 
--- src/pass2.rt:37:5
 loop-holds : tie.Need-loop-holds Inv-loop μ-loop
 loop-holds c = aiming-start (c .before .pre .3)
 
--- src/pass2.rt:38:18
 mul-at : tie.Need-mul-at Inv-loop μ-loop
 mul-at c = search needs
 
--- src/pass2.rt:38:18
 element-copy-out-at : tie.Need-element-copy-out-at Inv-loop μ-loop
 element-copy-out-at c = search needs
 
--- src/pass2.rt:38:18
 cast-at : tie.Need-cast-at Inv-loop μ-loop
 cast-at c = let p = c .before .before .before .before .pre in record { fits = omega (arith, p .0, start-in _ _ (noted-at (p .3) _ (c .before .loop-test .taken) .0)) }
 
--- src/pass2.rt:39:13
 fault-at-requires : tie.Need-fault-at-requires Inv-loop μ-loop
 fault-at-requires c κs = let p = c .before .before .before .before .pre in let q = noted-at (p .3) _ (c .before .loop-test .taken) in (p .0, p .1, p .2, q .0, q .1)
 
--- src/pass2.rt:41:13
 returns : tie.Need-returns Inv-loop μ-loop
 returns c = let p = c .before .before .before .before .before .before .pre in aiming-fault (p .3 .room) (c .before .before .before .before .loop .inv) (c .before .before .before .loop-test .taken) refl (c .before .fault-at .ensures) (c .if1 .taken)
 
--- src/pass2.rt:43:9
 add-i : tie.Need-add-i Inv-loop μ-loop
 add-i c = search needs
 
--- src/pass2.rt:37:5
 loop-less : tie.Need-loop-less Inv-loop μ-loop
 loop-less c = search needs
 
--- src/pass2.rt:37:5
 loop-again : tie.Need-loop-again Inv-loop μ-loop
 loop-again c = let p = c .before .before .before .before .before .before .pre in aiming-turn (p .3 .room) (c .before .before .before .before .loop .inv) (c .before .before .before .loop-test .taken) (omega arith)
 
--- src/pass2.rt:32:1
 returns-2 : tie.Need-returns-2 Inv-loop μ-loop
 returns-2 c = aiming-end (c .before .before .before .pre .3 .room) (c .before .loop .inv) (c .loop-test .left)
 

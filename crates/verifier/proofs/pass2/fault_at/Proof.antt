@@ -1,38 +1,29 @@
 use native.Mathlib.Omega.{arith}
 use mathlib.Core.Path.{sym}
 use lib.ListN.{getD}
-use Rattle.isa.proofs.Table.{jump-operands}
+use Rattle.isa.proofs.Promises.{jump-operands}
 use Rattle.verifier.proofs.Decoded.{decodes-fits}
 use Rattle.verifier.proofs.Scanning.{jumps-kind}
 use Rattle.verifier.proofs.Aiming.{mark-says, f-no-start, f-past, f-backward, f-forward}
 use borrow.Author.Needs.{needs}
 use Rattle.verifier.proofs.pass2.fault_at.Statement.{statement}
 use Rattle.verifier.proofs.pass2.fault_at.Tie as tie
-use Rattle.verifier.proofs.pass2.fault_at.Reads as reads
-use Rattle.verifier.proofs.pass2.fault_at.Lts as lts
-use Rattle.isa.proofs.operand_at.Reads as operand-at-reads
 
--- src/pass2.rt:18:18
 operand-at-requires : tie.Need-operand-at-requires
 operand-at-requires c κs = let a = c .before .args in let p = c .before .pre in let q = jumps-kind (a .e .now) (a .at) (p .4) in (sym (jump-operands (getD (a .e .now) (a .at) 0) (q .0) (q .1)), decodes-fits (a .e .now) (a .at) (p .1) (p .3))
 
--- src/pass2.rt:20:9
 returns : tie.Need-returns
 returns c = f-past _ _ (c .before .before .before .pre .4) (omega arith)
 
--- src/pass2.rt:22:20
 element-copy-out-is-start : tie.Need-element-copy-out-is-start
 element-copy-out-is-start c = search needs
 
--- src/pass2.rt:25:13
 returns-2 : tie.Need-returns-2
 returns-2 c = let p = c .before .before .before .before .before .before .pre in f-backward _ _ (p .4) (mark-says _ _ _ _ _ (c .before .if2 .taken) (p .2) (c .before .before .before .before .operand-at .ensures .0) (omega arith)) (omega arith)
 
--- src/pass2.rt:27:9
 returns-3 : tie.Need-returns-3
 returns-3 c = let p = c .before .before .before .before .before .before .pre in f-forward _ _ (p .4) (mark-says _ _ _ _ _ (c .before .if2 .taken) (p .2) (c .before .before .before .before .operand-at .ensures .0) (omega arith)) (omega arith)
 
--- src/pass2.rt:14:1
 returns-4 : tie.Need-returns-4
 returns-4 c = let p = c .before .before .before .before .before .pre in f-no-start _ _ (p .4) (mark-says _ _ _ _ _ (c .if2 .left) (p .2) (c .before .before .before .operand-at .ensures .0) (omega arith))
 

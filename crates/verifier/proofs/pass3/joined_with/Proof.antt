@@ -1,21 +1,15 @@
-use borrow.Author.Needs.{needs}
 use mathlib.Core.Path.{sym}
 use native.Mathlib.Omega.{arith}
 use Rattle.verifier.proofs.Along.{joined-first, joined-same, joined-differing}
 use Rattle.verifier.proofs.pass3.joined_with.Statement.{statement}
 use Rattle.verifier.proofs.pass3.joined_with.Tie as tie
-use Rattle.verifier.proofs.pass3.joined_with.Reads as reads
-use Rattle.verifier.proofs.pass3.joined_with.Lts as lts
 
--- src/pass3.rt:75:9
 returns : tie.Need-returns
 returns c = sym (joined-first (c .before .args .cell) (c .before .args .height) (omega arith))
 
--- src/pass3.rt:78:9
 returns-2 : tie.Need-returns-2
 returns-2 c = sym (joined-same (c .before .before .args .cell) (c .before .before .args .height) (omega arith))
 
--- src/pass3.rt:71:1
 returns-3 : tie.Need-returns-3
 returns-3 c = sym (joined-differing (c .before .before .args .cell) (c .before .before .args .height) (omega arith) (omega arith))
 

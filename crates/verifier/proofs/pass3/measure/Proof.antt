@@ -3,13 +3,9 @@ use native.Mathlib.Omega.{arith}
 use Prim.Native.Nat.{_-_}
 use lib.ListN.{length}
 use Rattle.verifier.specs.Pass3.{heights0, distances0}
-use Rattle.verifier.proofs.Measuring.{Measuring, measuring-start, measuring-turn, measuring-fault, measuring-end}
+use Rattle.verifier.proofs.Measuring.{Measuring, measuring-start, measuring-turn, measuring-fault, measuring-end, passing-known}
 use Rattle.verifier.proofs.pass3.measure.Statement.{statement}
 use Rattle.verifier.proofs.pass3.measure.Tie as tie
-use Rattle.verifier.proofs.pass3.measure.Reads as reads
-use Rattle.verifier.proofs.pass3.measure.Lts as lts
-use Rattle.isa.proofs.row_of.Reads as row-of-reads
-use Rattle.verifier.proofs.pass3.step.Reads as step-reads
 
 abbrev Inv-loop : tie.InvT-loop
 Inv-loop rows e heights₀ distances₀ at₀ greatest₀ longest₀ heights distances at greatest longest =
@@ -18,52 +14,40 @@ Inv-loop rows e heights₀ distances₀ at₀ greatest₀ longest₀ heights dis
 abbrev μ-loop : tie.MeasureT-loop
 μ-loop rows e heights₀ distances₀ at₀ greatest₀ longest₀ heights distances at greatest longest = length e - at
 
--- src/pass3.rt:190:5
 array-write-heights : tie.Need-array-write-heights Inv-loop μ-loop
 array-write-heights c = search needs
 
--- src/pass3.rt:194:5
 loop-holds : tie.Need-loop-holds Inv-loop μ-loop
 unfolding heights0 distances0
 loop-holds c = let p = c .before .pre in measuring-start _ (p .1) (p .2) (p .3)
 
--- src/pass3.rt:195:37
-shared-slice-read-row-of : tie.Need-shared-slice-read-row-of Inv-loop μ-loop
-shared-slice-read-row-of c = search needs
+shared-slice-read-known-row : tie.Need-shared-slice-read-known-row Inv-loop μ-loop
+shared-slice-read-known-row c = search needs
 
--- src/pass3.rt:195:13
-row-of-requires : tie.Need-row-of-requires Inv-loop μ-loop
-row-of-requires c κs = search needs
+known-row-requires : tie.Need-known-row-requires Inv-loop μ-loop
+known-row-requires c κs = (c .before .before .before .before .pre .0, passing-known (c .before .before .loop .inv .here (search needs)))
 
--- src/pass3.rt:196:13
 step-requires : tie.Need-step-requires Inv-loop μ-loop
-step-requires c κs = let s = c .before .before .before .before .before .loop .inv in (s .here (search needs), (c .before .before .row-of .ensures, omega (arith, s .low (c .before .before .before .before .before .loop .at), c .before .before .before .before .before .before .before .pre .1)))
+step-requires c κs = let s = c .before .before .before .before .before .loop .inv in (s .here (search needs), (c .before .before .known-row .ensures, omega (arith, s .low (c .before .before .before .before .before .loop .at), c .before .before .before .before .before .before .before .pre .1)))
 
--- src/pass3.rt:198:13
 returns : tie.Need-returns Inv-loop μ-loop
 returns c = measuring-fault (c .before .before .before .before .before .before .before .before .loop .inv) (search needs) (c .before .before .step .ensures) (c .if1 .taken)
 
--- src/pass3.rt:202:14
 add-at : tie.Need-add-at Inv-loop μ-loop
 add-at c = search needs
 
--- src/pass3.rt:202:23
 cast-at : tie.Need-cast-at Inv-loop μ-loop
 cast-at c = search needs
 
--- src/pass3.rt:202:14
 add-at-2 : tie.Need-add-at-2 Inv-loop μ-loop
 add-at-2 c = search needs
 
--- src/pass3.rt:194:5
 loop-less : tie.Need-loop-less Inv-loop μ-loop
 loop-less c = search needs
 
--- src/pass3.rt:194:5
 loop-again : tie.Need-loop-again Inv-loop μ-loop
-loop-again c = rw (c .before .before .before .before .before .before .row-of .ensures .operands-is) (measuring-turn (c .before .before .before .before .before .before .before .before .before .loop .inv) (search needs) (c .before .before .before .step .ensures) (omega arith))
+loop-again c = rw (c .before .before .before .before .before .before .known-row .ensures .operands-is) (measuring-turn (c .before .before .before .before .before .before .before .before .before .loop .inv) (search needs) (c .before .before .before .step .ensures) (omega arith))
 
--- src/pass3.rt:184:1
 returns-2 : tie.Need-returns-2 Inv-loop μ-loop
 returns-2 c = measuring-end (c .before .loop .inv) (search needs)
 
@@ -75,8 +59,8 @@ measure-spec =
     μ-loop
     array-write-heights
     loop-holds
-    shared-slice-read-row-of
-    row-of-requires
+    shared-slice-read-known-row
+    known-row-requires
     step-requires
     returns
     add-at

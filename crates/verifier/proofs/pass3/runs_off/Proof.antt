@@ -3,30 +3,22 @@ use Rattle.verifier.proofs.Measuring.{off-goto, off-end, off-other}
 use borrow.Author.Needs.{needs}
 use Rattle.verifier.proofs.pass3.runs_off.Statement.{statement}
 use Rattle.verifier.proofs.pass3.runs_off.Tie as tie
-use Rattle.verifier.proofs.pass3.runs_off.Reads as reads
-use Rattle.verifier.proofs.pass3.runs_off.Lts as lts
 
--- src/pass3.rt:39:9
 returns : tie.Need-returns
 returns c = off-goto _ _ (omega arith)
 
--- src/pass3.rt:42:9
 returns-2 : tie.Need-returns-2
 returns-2 c = off-end _ _ (omega arith)
 
--- src/pass3.rt:44:16
 add-result : tie.Need-add-result
 add-result c = search needs
 
--- src/pass3.rt:44:25
 cast-result : tie.Need-cast-result
 cast-result c = search needs
 
--- src/pass3.rt:44:16
 add-result-2 : tie.Need-add-result-2
 add-result-2 c = search needs
 
--- src/pass3.rt:34:1
 returns-3 : tie.Need-returns-3
 returns-3 c = off-other _ _ _ (omega arith) (omega arith) (omega arith)
 

@@ -1,0 +1,42 @@
+-- Cells needed and left, from a row and the N of pick N as the code has them.
+use mathlib.Core.List.{List}
+use mathlib.Core.Path.{_≡_}
+use mathlib.Core.Logic.{_≢_}
+use Prim.Native.Nat.{ℕ, _+_, _-_, _<_}
+use native.Mathlib.Omega.{arith}
+use lib.ListN.{getD}
+use borrow.Author.Tests.{eq-eqb, ne-eqb}
+use Rattle.isa.specs.Classes.{classOf, row, kind-pick}
+use Rattle.isa.specs.Decode.{kindAt, operand, picked, needed, left, heightAfter}
+
+module _ (e : List ℕ) (k : ℕ) where
+  -- ---- the N of pick N
+  pub picked-pick : (x : ℕ) → x ≡ operand e k → kindAt e k ≡ kind-pick → x ≡ picked e k
+  unfolding picked
+  picked-pick x p h = rw (eq-eqb (kindAt e k) kind-pick h) p
+
+  pub picked-none : kindAt e k ≢ kind-pick → 0 ≡ picked e k
+  unfolding picked
+  picked-none h = rw (ne-eqb (kindAt e k) kind-pick h)
+
+  -- the height after an instruction and the cells needed, from what the code computes
+  pub needed-by : (n p : ℕ) → n ≡ getD (row (classOf (getD e k 0))) 1 0 → p ≡ picked e k → n + p ≡ needed e k
+  unfolding needed
+  needed-by n p a b = cc
+
+  -- with no N on top of the row
+  pub needed-row : (n : ℕ) → n ≡ getD (row (classOf (getD e k 0))) 1 0 → kindAt e k < kind-pick → n ≡ needed e k
+  unfolding needed
+  needed-row n a h = omega (arith, picked-none (omega arith))
+
+  pub left-row : (n : ℕ) → n ≡ getD (row (classOf (getD e k 0))) 2 0 → kindAt e k < kind-pick → n ≡ left e k
+  unfolding left
+  left-row n a h = omega (arith, picked-none (omega arith))
+
+  pub after-by : (h n m : ℕ) → n ≡ needed e k → m ≡ left e k → h - n + m ≡ heightAfter e k h
+  unfolding heightAfter
+  after-by h n m a b = cc
+
+  pub left-by : (n p : ℕ) → n ≡ getD (row (classOf (getD e k 0))) 2 0 → p ≡ picked e k → n + p ≡ left e k
+  unfolding left
+  left-by n p a b = cc
