@@ -120,6 +120,13 @@ pub fn row_of(rows: &[[u8; 4]; 53], opcode: u8) -> Row
     }
 }
 
+// The same for a caller that holds no rows.
+pub fn look_up(opcode: u8) -> Row
+    ensures { λ r. ⌜ IsRow opcode r ⌝ }
+{
+    row_of(&ROWS, opcode)
+}
+
 // The operand of the instruction at `at`, all of whose `count` operand bytes are there.
 pub fn operand_at(e: &[u8], at: usize, count: usize) -> u64
     requires { ⌜ count ≡ operandBytes (now e) at ⌝ ∗ ⌜ next (now e) at ≤ length (now e) ⌝ }

@@ -49,7 +49,7 @@ fn append_instructions(out: &mut [u8], at: usize, count: usize) -> usize
     append(out, end, b" instructions")
 }
 
-fn append_accepted(out: &mut [u8], count: usize, height: u8, walk: u16) -> usize
+fn append_accepted(out: &mut [u8], count: usize, height: u8, walk: usize) -> usize
     ensures { λ r. ⌜ Counts r (now (out .exit)) ⌝ }
 {
     let a = append(out, 0, b"accepted: ");

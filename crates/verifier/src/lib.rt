@@ -15,7 +15,7 @@ mod pass3;
 
 // Accepted: instruction count, greatest height, longest walk. Refused: number and offset.
 pub enum Answer {
-    Accepted(usize, u8, u16),
+    Accepted(usize, u8, usize),
     Refused(u8, usize),
 }
 
@@ -33,7 +33,7 @@ pub enum Aim {
 
 // Pass 3: greatest height and longest walk, or number and offset.
 pub enum Measure {
-    Fine(u8, u16),
+    Fine(u8, usize),
     Fault(u8, usize),
 }
 
@@ -47,7 +47,7 @@ pub enum Effect {
 pub struct Step {
     pub fault: u8,
     pub greatest: u8,
-    pub longest: u16,
+    pub longest: usize,
 }
 
 // The verifier.

@@ -167,12 +167,16 @@ fn pass_to_next(
 }
 
 // The longest walk so far, with one of `distance` instructions that ends here where the instruction is an end.
-fn longer_at(row: Row, e: &[u8], at: usize, distance: u16, longest: u16) -> u16
+fn longer_at(row: Row, e: &[u8], at: usize, distance: u16, longest: usize) -> usize
     requires { ⌜ IsRow (getD (now e) at 0) row ⌝ }
     ensures { λ r. ⌜ r ≡ longer (now (e .entry)) at distance longest ⌝ }
 {
-    if row.kind == isa::END {
-        return greater(longest, distance);
+    if row.kind != isa::END {
+        return longest;
+    }
+    let walk = distance as usize;
+    if longest < walk {
+        return walk;
     }
     longest
 }
@@ -186,7 +190,7 @@ fn step_plain(
     heights: &mut [u8; 1024],
     distances: &mut [u16; 1024],
     greatest: u8,
-    longest: u16,
+    longest: usize,
 ) -> Step
     requires { ⌜ Passing (now e) at ⌝ ∗ ⌜ IsRow (getD (now e) at 0) row ⌝ ∗ ⌜ Arrived (now heights) (now distances) at height ⌝ ∗ ⌜ kindAt (now e) at < kind-pick ⌝ }
     ensures { λ r. ⌜ Stepped (now (e .entry)) at (now (heights .entry)) (now (distances .entry)) greatest longest r (now (heights .exit)) (now (distances .exit)) ⌝ }
@@ -225,7 +229,7 @@ fn step_other(
     heights: &mut [u8; 1024],
     distances: &mut [u16; 1024],
     greatest: u8,
-    longest: u16,
+    longest: usize,
 ) -> Step
     requires { ⌜ Passing (now e) at ⌝ ∗ ⌜ IsRow (getD (now e) at 0) row ⌝ ∗ ⌜ Arrived (now heights) (now distances) at height ⌝ }
     ensures { λ r. ⌜ Stepped (now (e .entry)) at (now (heights .entry)) (now (distances .entry)) greatest longest r (now (heights .exit)) (now (distances .exit)) ⌝ }
@@ -259,7 +263,7 @@ fn step(
     heights: &mut [u8; 1024],
     distances: &mut [u16; 1024],
     greatest: u8,
-    longest: u16,
+    longest: usize,
 ) -> Step
     requires { ⌜ Passing (now e) at ⌝ ∗ ⌜ IsRow (getD (now e) at 0) row ⌝ ∗ ⌜ getD (now distances) at 0 ≤ 1024 ⌝ }
     ensures { λ r. ⌜ Stepped (now (e .entry)) at (now (heights .entry)) (now (distances .entry)) greatest longest r (now (heights .exit)) (now (distances .exit)) ⌝ }

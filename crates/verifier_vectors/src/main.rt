@@ -7,7 +7,7 @@ use report::text::append;
 use report::text::append_number;
 use verifier::Answer;
 
-fn append_accepted(out: &mut [u8], count: usize, height: u8, walk: u16) -> usize
+fn append_accepted(out: &mut [u8], count: usize, height: u8, walk: usize) -> usize
     ensures { λ r. ⌜ Counts r (now (out .exit)) ⌝ }
 {
     let a = append(out, 0, b"accepted ");
