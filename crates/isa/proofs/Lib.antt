@@ -4,3 +4,4 @@ pub mod Table
 pub mod Decoding
 pub mod Following
 pub mod Walking
+pub mod Holding

@@ -5,3 +5,4 @@ pub mod Decode
 pub mod Starts
 pub mod Walk
 pub mod Rows
+pub mod Held

@@ -1,8 +1,10 @@
 // The instruction table, decoding, and the stack's limits.
+ghost use mathlib.Core.List.{_∷_};
 ghost use mathlib.Core.Path.{_≡_};
-ghost use Prim.Native.Nat.{_+_, _≤_, _<_, _^_};
-ghost use lib.ListN.{length, getD, replicate};
+ghost use Prim.Native.Nat.{_+_, _≤_, _<_, _^_, _-_};
+ghost use lib.ListN.{length, getD, replicate, drop};
 ghost use Rattle.encoding.specs.Tried.{Decides};
+ghost use Rattle.isa.specs.Held.{held};
 ghost use Rattle.isa.specs.Rows.{table, IsRow};
 ghost use Rattle.isa.specs.Decode.{operandBytes, operand, next, picked};
 
@@ -176,5 +178,22 @@ impl Stack {
         ensures { λ r. ⌜ Decides r needed height ⌝ }
     {
         needed <= height
+    }
+
+    // The cell `depth` below the top.
+    pub fn below(cells: &[u64; 64], height: usize, depth: usize) -> u64
+        requires { ⌜ depth < height ⌝ ∗ ⌜ height ≤ 64 ⌝ }
+        ensures { λ r. ⌜ r ≡ getD (held (now (cells .entry)) height) depth 0 ⌝ }
+    {
+        cells[height - 1 - depth]
+    }
+
+    // Puts `cell` in the place of the `count` topmost ones. The answer is the new height.
+    pub fn replace(cells: &mut [u64; 64], height: usize, count: usize, cell: u64) -> usize
+        requires { ⌜ count ≤ height ⌝ ∗ ⌜ height - count < 64 ⌝ ∗ ⌜ length (now cells) ≡ 64 ⌝ }
+        ensures { λ r. ⌜ (r ≡ height - count + 1) × (held (now (cells .exit)) r ≡ cell ∷ drop count (held (now (cells .entry)) height)) × (length (now (cells .exit)) ≡ 64) ⌝ }
+    {
+        cells[height - count] = cell;
+        height - count + 1
     }
 }

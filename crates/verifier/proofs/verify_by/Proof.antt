@@ -9,10 +9,10 @@ use Rattle.verifier.proofs.verify_by.Statement.{statement}
 use Rattle.verifier.proofs.verify_by.Tie as tie
 
 returns : tie.Need-returns
-returns c = verdict-empty _ (search needs)
+returns c = verdict-empty _ (omega arith)
 
 returns-2 : tie.Need-returns-2
-returns-2 c = verdict-long _ (search needs)
+returns-2 c = verdict-long _ (omega arith)
 
 scan-requires : tie.Need-scan-requires
 unfolding noMarks
