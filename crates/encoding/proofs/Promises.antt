@@ -1,13 +1,18 @@
 -- What users of `encoding` may cite. The contracts of src/lib.rt are the rest.
 use mathlib.Core.Bool.{Bool, true, false, not, cond, _&&_}
-use mathlib.Core.List.{List, [], _∷_}
+use mathlib.Core.List.{List, [], _∷_, _++_}
 use mathlib.Core.Path.{_≡_, refl}
-use Prim.Native.Nat.{ℕ, _≤_, _<_, zero-le}
+use Prim.Native.Nat.{ℕ, _+_, _-_, _^_, _≤_, _<_, zero-le}
 use native.Mathlib.Omega.{arith}
 use native.Mathlib.Decide.{decLt}
+use lib.ListN.{length, take, drop, set, getD}
 use lib.Dec.{T, leb, ltb, leb→le, ltb→lt}
 use borrow.Author.Tests.{not-true, not-false}
 use Rattle.encoding.specs.Tried.{tried, numbered, NoneHolds, Decides}
+use Rattle.encoding.specs.LittleEndian.{littleEndian, littleBytes}
+use Rattle.encoding.specs.Written.{writtenAt}
+use Rattle.encoding.proofs.LittleNumbers as little
+use Rattle.encoding.proofs.Writing as writing
 
 -- ---- numbers and truth values
 -- a number is below another, or it is not
@@ -59,3 +64,60 @@ tried-most b [] n = zero-le
 tried-most b (t ∷ ts) n =
     chosen-most (t .0) b (t .1) (tried ts) (leb→le (t .1) b (and-left (leb (t .1) b) (numbersAtMost b ts) n))
     (tried-most b ts (and-right (leb (t .1) b) (numbersAtMost b ts) n))
+
+-- ---- numbers in bytes, least significant byte first
+pub length-little : (n v : ℕ) → length (littleBytes n v) ≡ n
+length-little = little.length-little
+
+-- a number that n bytes can hold is the number of its n bytes
+pub little-of-bytes : (n v : ℕ) → v < 256 ^ n → littleEndian (littleBytes n v) ≡ v
+little-of-bytes = little.little-of-bytes
+
+-- of bytes, each below 256: the number fits them, and they are its bytes
+pub little-below : (bs : List ℕ) → ((i : ℕ) → getD bs i 0 < 256) → littleEndian bs < 256 ^ length bs
+little-below = little.little-below
+
+pub bytes-of-little : (bs : List ℕ) → ((i : ℕ) → getD bs i 0 < 256) → littleBytes (length bs) (littleEndian bs) ≡ bs
+bytes-of-little = little.bytes-of-little
+
+-- ---- a list with bytes written into it
+module _ (l : List ℕ) (a : ℕ) where
+  pub written-length : (e : List ℕ) → length (writtenAt l a e) ≡ length l
+  written-length = writing.written-length l a
+
+  pub written-nothing : writtenAt l a [] ≡ l
+  written-nothing = writing.written-nothing l a
+
+  -- writing e and then f behind it is writing e ++ f
+  pub written-more : (e f : List ℕ) → writtenAt (writtenAt l a e) (a + length e) f ≡ writtenAt l a (e ++ f)
+  written-more = writing.written-more l a
+
+  pub written-store : (v : ℕ) → set l a v ≡ writtenAt l a (v ∷ [])
+  written-store = writing.written-store l a
+
+  -- every byte outside is as before
+  pub written-form : (e : List ℕ) → a + length e ≤ length l → writtenAt l a e ≡ take a l ++ (e ++ drop (a + length e) l)
+  written-form = writing.written-form l a
+
+  -- the bytes written are read back
+  pub written-read : (e : List ℕ) → a + length e ≤ length l → take (length e) (drop a (writtenAt l a e)) ≡ e
+  written-read = writing.written-read l a
+
+-- ---- the free part of a buffer l, lent out as `&mut l[u..]` and come back
+module _ (l : List ℕ) (u : ℕ) where
+  pub part-lent : take (length l - u) (drop u l) ≡ drop u l
+  part-lent = writing.part-lent l u
+
+  pub part-length : length (take (length l - u) (drop u l)) ≡ length l - u
+  part-length = writing.part-length l u
+
+  module _ (h : u ≤ length l) where
+    -- as p; with e written at its front; unchanged
+    pub part-back : (p : List ℕ) → take u l ++ (p ++ drop (length l - u) (drop u l)) ≡ take u l ++ p
+    part-back = writing.part-back l u h
+
+    pub part-written : (e : List ℕ) → take u l ++ (writtenAt (take (length l - u) (drop u l)) 0 e ++ drop (length l - u) (drop u l)) ≡ writtenAt l u e
+    part-written = writing.part-written l u h
+
+    pub part-same : take u l ++ (take (length l - u) (drop u l) ++ drop (length l - u) (drop u l)) ≡ l
+    part-same = writing.part-same l u h

@@ -3,6 +3,8 @@ ghost use mathlib.Core.Path.{_≡_};
 ghost use Prim.Native.Nat.{_+_, _<_, _≤_, _^_};
 ghost use lib.ListN.{length};
 ghost use Rattle.encoding.specs.BigEndian.{bigEndian};
+ghost use Rattle.encoding.specs.LittleEndian.{littleEndian, littleBytes};
+ghost use Rattle.encoding.specs.Written.{writtenAt};
 
 // A byte as a 64-bit number: the caller then knows that it is below 256.
 pub fn wide(byte: u8) -> u64
@@ -23,4 +25,45 @@ pub fn big_endian(bytes: &[u8], at: usize, count: usize) -> u64
         read += 1;
     }
     number
+}
+
+// The number whose bytes these are, least significant byte first.
+pub fn little_endian(bytes: &[u8]) -> u64
+    requires { ⌜ length (now bytes) ≤ 8 ⌝ }
+    ensures { λ r. ⌜ (r ≡ littleEndian (now (bytes .entry))) × (r < 256 ^ length (now (bytes .entry))) ⌝ }
+{
+    let count = bytes.len();
+    let mut value: u64 = 0;
+    let mut left = count;
+    while 0 < left {
+        value = value * 256 + wide(bytes[left - 1]);
+        left -= 1;
+    }
+    value
+}
+
+// Writes the `count` bytes of `value` from `at` on, least significant byte first.
+pub fn put_little(out: &mut [u8], at: usize, value: u64, count: usize)
+    requires { ⌜ at + count ≤ length (now out) ⌝ }
+    ensures { λ _. ⌜ now (out .exit) ≡ writtenAt (now (out .entry)) at (littleBytes count value) ⌝ }
+{
+    let mut rest = value;
+    let mut put = 0;
+    while put < count {
+        out[at + put] = (rest % 256) as u8;
+        rest = rest / 256;
+        put += 1;
+    }
+}
+
+// Writes a copy of `bytes` from `at` on.
+pub fn put_bytes(out: &mut [u8], at: usize, bytes: &[u8])
+    requires { ⌜ at + length (now bytes) ≤ length (now out) ⌝ }
+    ensures { λ _. ⌜ now (out .exit) ≡ writtenAt (now (out .entry)) at (now (bytes .entry)) ⌝ }
+{
+    let mut copied = 0;
+    while copied < bytes.len() {
+        out[at + copied] = bytes[copied];
+        copied += 1;
+    }
 }

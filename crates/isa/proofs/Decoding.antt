@@ -1,13 +1,15 @@
 -- Cells needed and left, from a row and the N of pick N as the code has them.
+use mathlib.Core.Bool.{cond}
 use mathlib.Core.List.{List}
-use mathlib.Core.Path.{_≡_}
+use mathlib.Core.Path.{_≡_, ap}
 use mathlib.Core.Logic.{_≢_}
 use Prim.Native.Nat.{ℕ, _+_, _-_, _<_}
 use native.Mathlib.Omega.{arith}
 use lib.ListN.{getD}
+use lib.Dec.{eqb}
 use borrow.Author.Tests.{eq-eqb, ne-eqb}
-use Rattle.isa.specs.Classes.{classOf, row, kind-pick}
-use Rattle.isa.specs.Decode.{kindAt, operand, picked, needed, left, heightAfter}
+use Rattle.isa.specs.Classes.{Class, classOf, row, kind, kind-pick}
+use Rattle.isa.specs.Decode.{classAt, kindAt, operandBytes, operand, picked, needed, left, heightAfter}
 
 module _ (e : List ℕ) (k : ℕ) where
   -- ---- the N of pick N
@@ -40,3 +42,16 @@ module _ (e : List ℕ) (k : ℕ) where
   pub left-by : (n p : ℕ) → n ≡ getD (row (classOf (getD e k 0))) 2 0 → p ≡ picked e k → n + p ≡ left e k
   unfolding left
   left-by n p a b = cc
+
+  -- operand bytes, cells needed and cells left, from the class
+  module _ (c : Class) (p : classAt e k ≡ c) where
+    pub operands-class : operandBytes e k ≡ getD (row c) 0 0
+    operands-class = ap (λ (x : Class). getD (row x) 0 0) p
+
+    pub needed-class : needed e k ≡ getD (row c) 1 0 + cond (eqb (kind c) kind-pick) (operand e k) 0
+    unfolding needed picked
+    needed-class = ap (λ (x : Class). getD (row x) 1 0 + cond (eqb (kind x) kind-pick) (operand e k) 0) p
+
+    pub left-class : left e k ≡ getD (row c) 2 0 + cond (eqb (kind c) kind-pick) (operand e k) 0
+    unfolding left picked
+    left-class = ap (λ (x : Class). getD (row x) 2 0 + cond (eqb (kind x) kind-pick) (operand e k) 0) p

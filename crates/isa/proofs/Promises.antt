@@ -1,13 +1,14 @@
 -- What users of `isa` may cite, each law stated in full and proved where it is named. The contracts of src/lib.rt are the rest.
 -- That the classes say of all 256 bytes what document 01's table says is `agrees`, in specs/Document.antt.
-use mathlib.Core.Bool.{true, false}
+use mathlib.Core.Bool.{true, false, cond}
 use mathlib.Core.List.{List, [], _∷_, _++_}
 use mathlib.Core.Path.{_≡_}
 use mathlib.Core.Logic.{_⊎_}
 use Prim.Native.Nat.{ℕ, _+_, _-_, _≤_, _<_}
 use lib.ListN.{length, getD}
-use Rattle.isa.specs.Classes.{classOf, row, kind, member, kind-unknown, kind-unsupported, kind-ext, kind-variable, kind-pick, kind-goto, kind-if-goto}
-use Rattle.isa.specs.Decode.{kindAt, next, picked, needed, left, heightAfter}
+use lib.Dec.{eqb}
+use Rattle.isa.specs.Classes.{Class, classOf, row, kind, member, kind-unknown, kind-unsupported, kind-ext, kind-variable, kind-pick, kind-goto, kind-if-goto}
+use Rattle.isa.specs.Decode.{classAt, kindAt, operandBytes, next, operand, picked, needed, left, heightAfter}
 use Rattle.isa.specs.Starts.{startsFrom, isStart}
 use Rattle.isa.specs.Walk.{After, Walk, weigh, one}
 use Rattle.isa.proofs.Table as table
@@ -47,6 +48,17 @@ module _ (e : List ℕ) (k : ℕ) where
 
   pub after-by : (h n m : ℕ) → n ≡ needed e k → m ≡ left e k → h - n + m ≡ heightAfter e k h
   after-by = decoding.after-by e k
+
+  -- the same by the class of the instruction
+  module _ (c : Class) (p : classAt e k ≡ c) where
+    pub operands-class : operandBytes e k ≡ getD (row c) 0 0
+    operands-class = decoding.operands-class e k c p
+
+    pub needed-class : needed e k ≡ getD (row c) 1 0 + cond (eqb (kind c) kind-pick) (operand e k) 0
+    needed-class = decoding.needed-class e k c p
+
+    pub left-class : left e k ≡ getD (row c) 2 0 + cond (eqb (kind c) kind-pick) (operand e k) 0
+    left-class = decoding.left-class e k c p
 
 -- ---- members of a list of offsets
 module _ (k x : ℕ) (xs : List ℕ) where

@@ -1,0 +1,115 @@
+-- The division of bytes into records.
+use mathlib.Core.List.{List, [], _∷_, _++_, append-nil, append-assoc}
+use mathlib.Core.Path.{_≡_, refl, ap, sym, _∙_}
+use Prim.Native.Nat.{ℕ, zero, suc, _+_, _≤_, _<_}
+use native.Mathlib.Nat.{add-assoc, zero-add, not-suc-le-zero}
+use native.Mathlib.Omega.{arith}
+use lib.ListN.{length, getD, drop, length-append, length-drop}
+use lib.Seq.{drop-at, getD-drop}
+use Rattle.frames.specs.Record.{Record, encode, encodeAll, size, AllWellFormed, Decoded, found, broken, decode}
+use Rattle.frames.specs.Division.{Division, records, brokenAt, after, afterAll, onward, divideAtMost, divide}
+use Rattle.frames.proofs.Decoding.{size-encode, decode-encode, InFront, in-front, found-fits, encode-decode}
+
+-- ---- any number of records that is enough gives the same
+onward-same : (f g : List ℕ → Division) (l : List ℕ) (d : Decoded) → InFront l d
+    → ((n : ℕ) → 1 ≤ n → n ≤ length l → f (drop n l) ≡ g (drop n l)) → onward f l d ≡ onward g l d
+onward-same f g l (found r) h e = ap (after r) (e (size r) (h .0) (h .1))
+onward-same f g l broken h e = refl
+
+same-division : (n m : ℕ) (l : List ℕ) → length l ≤ n → length l ≤ m → divideAtMost n l ≡ divideAtMost m l
+unfolding divideAtMost
+same-division zero zero l h k = refl
+same-division zero (suc m) [] h k = refl
+same-division zero (suc m) (b ∷ l) h k = absurd (not-suc-le-zero h)
+same-division (suc n) zero [] h k = refl
+same-division (suc n) zero (b ∷ l) h k = absurd (not-suc-le-zero k)
+same-division (suc n) (suc m) [] h k = refl
+same-division (suc n) (suc m) (b ∷ l) h k =
+    onward-same (λ t. divideAtMost n t) (λ t. divideAtMost m t) (b ∷ l) (decode (b ∷ l)) (in-front (b ∷ l))
+    (λ i p q. same-division n m (drop i (b ∷ l)) (omega (arith, length-drop i (b ∷ l))) (omega (arith, length-drop i (b ∷ l))))
+
+-- ---- the three equations of `divide`
+pub divide-nothing : divide [] ≡ records []
+unfolding divideAtMost divide
+divide-nothing = refl
+
+first-step : (l : List ℕ) → 0 < length l → divide l ≡ onward divide l (decode l)
+unfolding divideAtMost divide
+first-step [] h = absurd (not-suc-le-zero h)
+first-step (b ∷ l) h =
+    onward-same (λ t. divideAtMost (length l) t) divide (b ∷ l) (decode (b ∷ l)) (in-front (b ∷ l))
+    (λ i p q. same-division (length l) (length (drop i (b ∷ l))) (drop i (b ∷ l)) (omega (arith, length-drop i (b ∷ l))) (omega arith))
+
+pub divide-found : (l : List ℕ) {r : Record} → decode l ≡ found r → divide l ≡ after r (divide (drop (size r) l))
+divide-found l e = first-step l (omega (arith, found-fits l e)) ∙ ap (onward divide l) e
+
+pub divide-broken : (l : List ℕ) → 0 < length l → decode l ≡ broken → divide l ≡ brokenAt 0
+divide-broken l h e = first-step l h ∙ ap (onward divide l) e
+
+-- ---- records, and what follows them
+pub after-all-nothing : (rs : List Record) → afterAll rs (records []) ≡ records rs
+after-all-nothing [] = refl
+after-all-nothing (r ∷ rs) = ap (after r) (after-all-nothing rs)
+
+pub after-all-more : (rs : List Record) (r : Record) (d : Division) → afterAll rs (after r d) ≡ afterAll (rs ++ (r ∷ [])) d
+after-all-more [] r d = refl
+after-all-more (q ∷ rs) r d = ap (after q) (after-all-more rs r d)
+
+pub after-all-broken : (rs : List Record) (i : ℕ) → afterAll rs (brokenAt i) ≡ brokenAt (length (encodeAll rs) + i)
+unfolding encodeAll
+after-all-broken [] i = rw zero-add
+after-all-broken (r ∷ rs) i = rw (after-all-broken rs i, length-append (encode r) (encodeAll rs), size-encode r, add-assoc)
+
+pub encode-all-more : (rs : List Record) (r : Record) → encodeAll (rs ++ (r ∷ [])) ≡ encodeAll rs ++ encode r
+unfolding encodeAll
+encode-all-more [] r = append-nil (encode r)
+encode-all-more (q ∷ rs) r = rw (encodeAll, encode-all-more rs r, append-assoc)
+
+-- ---- the division of what was encoded
+pub divide-encoded : (rs : List Record) (l : List ℕ) → AllWellFormed rs → divide (encodeAll rs ++ l) ≡ afterAll rs (divide l)
+unfolding encodeAll
+divide-encoded [] l w = refl
+divide-encoded (r ∷ rs) l w =
+    rw append-assoc
+    (divide-found (encode r ++ (encodeAll rs ++ l)) (decode-encode r (encodeAll rs ++ l) (w .0))
+    ∙ ap (λ t. after r (divide t)) (drop-at (encode r) (encodeAll rs ++ l) (size r) (size-encode r))
+    ∙ ap (after r) (divide-encoded rs l (w .1)))
+
+pub divide-all : (rs : List Record) → AllWellFormed rs → divide (encodeAll rs) ≡ records rs
+divide-all rs w =
+    ap divide (sym (append-nil (encodeAll rs))) ∙ divide-encoded rs [] w ∙ ap (afterAll rs) divide-nothing ∙ after-all-nothing rs
+
+-- ---- and the bytes that are divided
+split : {X : Type 0} (r : Record) (d : Division) (rs : List Record) → after r d ≡ records rs
+    → ((ts : List Record) → d ≡ records ts → rs ≡ r ∷ ts → X) → X
+split r (records ts) rs e k = k ts refl (cc)
+split r (brokenAt i) rs e k = let z : _≡_ {A = ℕ} 0 1 = cc in absurd (omega arith)
+
+abbrev Encoded : List ℕ → List Record → Type 0
+Encoded l rs = AllWellFormed rs × (l ≡ encodeAll rs)
+
+module _ (l : List ℕ) (bytes : (i : ℕ) → getD l i 0 < 256) (f : List ℕ → Division)
+    (again : (r : Record) → 1 ≤ size r → (ts : List Record) → f (drop (size r) l) ≡ records ts → Encoded (drop (size r) l) ts) where
+  onward-again : (d : Decoded) → decode l ≡ d → (rs : List Record) → onward f l d ≡ records rs → Encoded l rs
+  unfolding encodeAll
+  onward-again (found r) e rs p =
+      split r (f (drop (size r) l)) rs p λ ts q s.
+      let rest = again r (found-fits l e .0) ts q in
+      let front = encode-decode l bytes e in
+      rw s ((front .0, rest .0), front .1 ∙ ap (λ t. encode r ++ t) (rest .1))
+  onward-again broken e rs p = let z : _≡_ {A = ℕ} 0 1 = cc in absurd (omega arith)
+
+encoded-by : (n : ℕ) (l : List ℕ) → length l ≤ n → ((i : ℕ) → getD l i 0 < 256) → (rs : List Record) → divideAtMost n l ≡ records rs → Encoded l rs
+unfolding divideAtMost encodeAll
+encoded-by zero [] h bytes rs e = let s : rs ≡ [] = cc in rw s (tt, refl)
+encoded-by zero (b ∷ l) h bytes rs e = absurd (not-suc-le-zero h)
+encoded-by (suc n) [] h bytes rs e = let s : rs ≡ [] = cc in rw s (tt, refl)
+encoded-by (suc n) (b ∷ l) h bytes rs e =
+    onward-again (b ∷ l) bytes (λ t. divideAtMost n t)
+    (λ r p ts q. encoded-by n (drop (size r) (b ∷ l)) (omega (arith, length-drop (size r) (b ∷ l)))
+    (λ i. rw (getD-drop (size r) (b ∷ l) i 0) (bytes (size r + i))) ts q)
+    (decode (b ∷ l)) refl rs e
+
+pub divided-encoded : (l : List ℕ) → ((i : ℕ) → getD l i 0 < 256) → (rs : List Record) → divide l ≡ records rs → AllWellFormed rs × (l ≡ encodeAll rs)
+unfolding divide
+divided-encoded l bytes rs e = encoded-by (length l) l (omega arith) bytes rs e

@@ -1,0 +1,10 @@
+-- "At end a trailer closes the frame, even one with no records" (document 01, "Frames").
+use mathlib.Core.List.{List, _++_}
+use Prim.Native.Nat.{ℕ}
+use lib.ListN.{length}
+use Rattle.frames.specs.Record.{Record, encodeAll}
+use Rattle.frames.specs.Trailer.{encodeTrailer}
+
+-- the records, then the trailer with their length
+unfoldable pub encodeFrame : ℕ → List Record → List ℕ
+encodeFrame tracepoint rs = encodeAll rs ++ encodeTrailer tracepoint (length (encodeAll rs))

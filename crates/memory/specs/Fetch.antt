@@ -1,0 +1,52 @@
+-- Reading target memory: document 01, "Meanings the manual leaves open", and refusal 19. A range is a number k of bytes at an address a.
+use mathlib.Core.Bool.{Bool, cond, not, _&&_, _||_}
+use mathlib.Core.List.{List, [], _∷_, _++_}
+use mathlib.Core.Logic.{_⊎_}
+use mathlib.Core.Path.{_≡_}
+use Prim.Native.Nat.{ℕ, _+_, _-_, _<_}
+use lib.ListN.{length, take, drop, getD}
+use lib.Dec.{leb, ltb, eqb}
+use Rattle.encoding.specs.Tried.{tried}
+use Rattle.memory.specs.Spans.{InSpan, spanTests}
+
+-- all of the range lies in the span of n bytes at f; a + k is a number without bound, since "addresses never wrap"
+unfoldable pub holdsRange : ℕ → ℕ → ℕ → ℕ → Bool
+holdsRange f n a k = leb f a && leb (a + k) (f + n)
+
+-- "readable exactly if all of it lies in one span"
+unfoldable pub readable : ℕ → List ℕ → ℕ → List ℕ → ℕ → ℕ → Bool
+readable f image g work a k = holdsRange f (length image) a k || holdsRange g (length work) a k
+
+-- "12 and 13 come first"; then 19 for a range of one byte or more that is not readable
+unfoldable pub fetchRefusal : ℕ → List ℕ → ℕ → List ℕ → ℕ → ℕ → ℕ
+fetchRefusal f image g work a k = tried (spanTests f image g work ++ ((ltb 0 k && not (readable f image g work a k), 19) ∷ []))
+
+-- what `of` makes of "whichever span holds them", the k bytes at a, and `none` where neither does
+abbrev pub whichever : {A : Type 0} → ℕ → List ℕ → ℕ → List ℕ → ℕ → ℕ → (ℕ → List ℕ → A) → A → A
+whichever f image g work a k of none = cond (holdsRange f (length image) a k) (of f image) (cond (holdsRange g (length work) a k) (of g work) none)
+
+-- the bytes lent: those of the range; "a refused fetch lends an empty part"
+unfoldable pub fetched : ℕ → List ℕ → ℕ → List ℕ → ℕ → ℕ → List ℕ
+fetched f image g work a k =
+    cond (eqb (fetchRefusal f image g work a k) 0) (whichever f image g work a k (λ first bytes. take k (drop (a - first) bytes)) []) []
+
+-- the target's byte at the address x, and 0 where no span holds it
+unfoldable pub targetByte : ℕ → List ℕ → ℕ → List ℕ → ℕ → ℕ
+targetByte f image g work x = whichever f image g work x 1 (λ first bytes. getD bytes (x - first) 0) 0
+
+-- the bytes from the address a to the end of the span that holds it, for use where neither 12 nor 13 is met
+unfoldable pub restOf : ℕ → List ℕ → ℕ → List ℕ → ℕ → List ℕ
+restOf f image g work a = whichever f image g work a 1 (λ first bytes. drop (a - first) bytes) []
+
+-- ---- the same of each address, with no sum: every one of the k addresses from a on lies in the span
+abbrev pub Within : ℕ → ℕ → ℕ → ℕ → Type 0
+Within f n a k = (i : ℕ) → i < k → InSpan f n (a + i)
+
+-- all of the range lies in one span
+abbrev pub Readable : ℕ → List ℕ → ℕ → List ℕ → ℕ → ℕ → Type 0
+Readable f image g work a k = Within f (length image) a k ⊎ Within g (length work) a k
+
+-- a part that is the k bytes at a of the one span of the bytes l at f
+pub record PartOf (f : ℕ) (l : List ℕ) (a k : ℕ) (part : List ℕ) : Type 0 where
+  pub within : Within f (length l) a k
+  pub same : part ≡ take k (drop (a - f) l)

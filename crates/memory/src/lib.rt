@@ -1,0 +1,183 @@
+// Target memory: two spans of lent bytes, what is read there, and the search for a zero byte.
+// Sums of addresses could wrap: addresses are compared by differences.
+ghost use mathlib.Core.Path.{_≡_};
+ghost use mathlib.Core.Bool.{true};
+ghost use Prim.Native.Nat.{_-_};
+ghost use lib.ListN.{length, take, drop};
+ghost use Rattle.memory.specs.Spans.{endsPast, shareAddress, spansRefusal};
+ghost use Rattle.memory.specs.Fetch.{holdsRange, fetchRefusal, fetched, restOf};
+ghost use Rattle.memory.specs.FirstZero.{searched};
+
+// Whether first + len exceeds 2^64.
+fn ends_past(first: u64, len: u64) -> bool
+    ensures { λ r. ⌜ r ≡ endsPast first len ⌝ }
+{
+    if len == 0 {
+        return false;
+    }
+    u64::MAX - first < len - 1
+}
+
+// Whether a span of n bytes at f and one of m bytes at g share an address.
+fn share_address(f: u64, n: u64, g: u64, m: u64) -> bool
+    ensures { λ r. ⌜ r ≡ shareAddress f n g m ⌝ }
+{
+    if n == 0 {
+        return false;
+    }
+    if m == 0 {
+        return false;
+    }
+    if f <= g {
+        return g - f < n;
+    }
+    f - g < m
+}
+
+// 12 or 13, or 0 where neither is met.
+pub fn spans_refusal(image_first: u64, image: &[u8], work_first: u64, work: &[u8]) -> u8
+    ensures { λ r. ⌜ r ≡ spansRefusal «image_first» (now (image .entry)) «work_first» (now (work .entry)) ⌝ }
+{
+    if ends_past(image_first, image.len() as u64) {
+        return 12;
+    }
+    if ends_past(work_first, work.len() as u64) {
+        return 12;
+    }
+    if share_address(
+        image_first,
+        image.len() as u64,
+        work_first,
+        work.len() as u64,
+    ) {
+        return 13;
+    }
+    0
+}
+
+// Whether all of the `size` bytes at `address` lie in the span of `len` bytes at `first`.
+fn holds_range(first: u64, len: u64, address: u64, size: u64) -> bool
+    ensures { λ r. ⌜ r ≡ holdsRange first len address size ⌝ }
+{
+    if address < first {
+        return false;
+    }
+    if len < address - first {
+        return false;
+    }
+    size <= len - (address - first)
+}
+
+// Why `fetch` lends nothing: 12, 13 or 19, or 0 where it is not refused.
+pub fn fetch_refusal(
+    image_first: u64,
+    image: &[u8],
+    work_first: u64,
+    work: &[u8],
+    address: u64,
+    size: u64,
+) -> u8
+    ensures { λ r. ⌜ r ≡ fetchRefusal «image_first» (now (image .entry)) «work_first» (now (work .entry)) address size ⌝ }
+{
+    let refusal = spans_refusal(image_first, image, work_first, work);
+    if refusal != 0 {
+        return refusal;
+    }
+    if size == 0 {
+        return 0;
+    }
+    if holds_range(image_first, image.len() as u64, address, size) {
+        return 0;
+    }
+    if holds_range(work_first, work.len() as u64, address, size) {
+        return 0;
+    }
+    19
+}
+
+// The `size` bytes at `address`, of a span that holds them all.
+fn part_of<'a>(first: u64, bytes: &'a [u8], address: u64, size: u64) -> &'a [u8]
+    requires { ⌜ holdsRange first (length (now bytes)) address size ≡ true ⌝ }
+    ensures { λ r. ⌜ now r ≡ take size (drop (address - first) (now (bytes .entry))) ⌝ }
+{
+    let at = (address - first) as usize;
+    &bytes[at..at + size as usize]
+}
+
+// The `size` bytes at `address`, in whichever span holds them all; an empty part where that is refused.
+pub fn fetch<'a>(
+    image_first: u64,
+    image: &'a [u8],
+    work_first: u64,
+    work: &'a [u8],
+    address: u64,
+    size: u64,
+) -> &'a [u8]
+    ensures { λ r. ⌜ now r ≡ fetched «image_first» (now (image .entry)) «work_first» (now (work .entry)) address size ⌝ }
+{
+    if fetch_refusal(image_first, image, work_first, work, address, size) != 0 {
+        return &image[..0];
+    }
+    if holds_range(image_first, image.len() as u64, address, size) {
+        return part_of(image_first, image, address, size);
+    }
+    if holds_range(work_first, work.len() as u64, address, size) {
+        return part_of(work_first, work, address, size);
+    }
+    &image[..0]
+}
+
+// The bytes from `address` on, of a span that holds that address.
+fn rest_of<'a>(first: u64, bytes: &'a [u8], address: u64) -> &'a [u8]
+    requires { ⌜ holdsRange first (length (now bytes)) address 1 ≡ true ⌝ }
+    ensures { λ r. ⌜ now r ≡ drop (address - first) (now (bytes .entry)) ⌝ }
+{
+    &bytes[(address - first) as usize..]
+}
+
+// The bytes from `address` to the end of the span that holds it; none where no span does. For spans that 12 and 13 do not refuse.
+pub fn rest<'a>(
+    image_first: u64,
+    image: &'a [u8],
+    work_first: u64,
+    work: &'a [u8],
+    address: u64,
+) -> &'a [u8]
+    ensures { λ r. ⌜ now r ≡ restOf «image_first» (now (image .entry)) «work_first» (now (work .entry)) address ⌝ }
+{
+    if holds_range(image_first, image.len() as u64, address, 1) {
+        return rest_of(image_first, image, address);
+    }
+    if holds_range(work_first, work.len() as u64, address, 1) {
+        return rest_of(work_first, work, address);
+    }
+    &image[..0]
+}
+
+// How a search for the first zero byte went.
+pub enum Search {
+    Found(usize), // a zero: so many bytes up to and with it
+    Reached(usize), // the size, and no zero
+    Ended(usize), // so many bytes, fewer than the size, and no zero
+}
+
+// Searches the first `size` bytes.
+pub fn find_zero(bytes: &[u8], size: usize) -> Search
+    ensures { λ r. ⌜ r ≡ searched size (now (bytes .entry)) ⌝ }
+{
+    let mut passed = 0;
+    let outcome = loop {
+        let next = passed + 1;
+        if passed == size {
+            break Search::Reached(passed);
+        }
+        if bytes.len() <= passed {
+            break Search::Ended(passed);
+        }
+        if bytes[passed] == 0 {
+            break Search::Found(next);
+        }
+        passed = next;
+    };
+    outcome
+}
