@@ -5,16 +5,18 @@ use mathlib.Core.List.{List, [], _∷_, _++_}
 use mathlib.Core.Path.{_≡_}
 use mathlib.Core.Logic.{_⊎_}
 use Prim.Native.Nat.{ℕ, _+_, _-_, _≤_, _<_}
-use lib.ListN.{length, getD}
+use lib.ListN.{length, getD, drop}
 use lib.Dec.{eqb}
 use Rattle.isa.specs.Classes.{Class, classOf, row, kind, member, kind-unknown, kind-unsupported, kind-ext, kind-variable, kind-pick, kind-goto, kind-if-goto}
 use Rattle.isa.specs.Decode.{classAt, kindAt, operandBytes, next, operand, picked, needed, left, heightAfter}
 use Rattle.isa.specs.Starts.{startsFrom, isStart}
+use Rattle.isa.specs.Held.{held}
 use Rattle.isa.specs.Walk.{After, Walk, weigh, one}
 use Rattle.isa.proofs.Table as table
 use Rattle.isa.proofs.Decoding as decoding
 use Rattle.isa.proofs.Following as following
 use Rattle.isa.proofs.Walking as walking
+use Rattle.isa.proofs.Holding as holding
 
 -- ---- the table: operand bytes by kind, and which opcodes have a row
 pub no-operands : (op : ℕ) → kind (classOf op) ≤ kind-unsupported → getD (row (classOf op)) 0 0 ≡ 0
@@ -109,3 +111,13 @@ weigh-on = walking.weigh-on
 
 pub weigh-one : (w : List ℕ) → weigh one w ≡ length w
 weigh-one = walking.weigh-one
+
+-- ---- the stack that an array and a height stand for
+pub length-held : (a : List ℕ) (h : ℕ) → length (held a h) ≡ h
+length-held = holding.length-held
+
+pub held-drop : (a : List ℕ) (h n : ℕ) → n ≤ h → held a (h - n) ≡ drop n (held a h)
+held-drop = holding.held-drop
+
+pub held-at : (a : List ℕ) (h n : ℕ) → n < h → getD a (h - 1 - n) 0 ≡ getD (held a h) n 0
+held-at = holding.held-at

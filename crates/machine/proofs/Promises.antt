@@ -1,0 +1,102 @@
+-- What users of `machine` may cite: promise R2, how a run ends before it steps, and what a loop that follows the machine needs at each step.
+-- The definitions that it names are in specs/: Machine (the moves), Run (a run on any input); and of other crates `isa` Walk, `verifier` Acceptance.
+use mathlib.Core.List.{List, []}
+use mathlib.Core.Logic.{_≢_}
+use mathlib.Core.Path.{_≡_}
+use Prim.Native.Nat.{ℕ, _+_, _-_, _≤_, _<_}
+use lib.ListN.{length}
+use Rattle.isa.specs.Classes.{kind-end}
+use Rattle.isa.specs.Decode.{kindAt, needed, left, heightAfter}
+use Rattle.isa.specs.Walk.{After}
+use Rattle.frames.specs.Record.{Record}
+use Rattle.verifier.specs.Verdict.{accepted, refused, verdict}
+use Rattle.verifier.specs.Acceptance.{Accepted, Ready}
+use Rattle.machine.specs.Fed.{Fed, State, begin}
+use Rattle.machine.specs.Meaning.{leaves, faults, done, stackAfter, offsetAfter}
+use Rattle.machine.specs.Machine.{stopped, moves}
+use Rattle.machine.specs.Run.{inputRefusal, ended, stepsOf, numberOf}
+use Rattle.machine.proofs.Cells as cells
+use Rattle.machine.proofs.Following as following
+use Rattle.machine.proofs.Steps as steps
+-- OnWalk e k s i: some walk of e from offset 0 to k arrives with the height of the stack s and has i instructions before k.
+pub use Rattle.machine.proofs.Following.{OnWalk}
+
+-- ---- R2: the steps of a run
+module _ (m : Fed) (v buffer : List ℕ) (used allowance : ℕ) where
+  -- never more than the allowance
+  pub steps-allowed : stepsOf (ended m v buffer used allowance) ≤ allowance
+  steps-allowed = steps.steps-allowed m v buffer used allowance
+
+  -- never more than the longest walk
+  pub steps-longest : {n g l : ℕ} → verdict (m .expression) ≡ accepted n g l → stepsOf (ended m v buffer used allowance) ≤ l
+  steps-longest = steps.steps-longest m v buffer used allowance
+
+  -- an allowance of the longest walk, or more, is never spent: refusal 16 is not met
+  pub allowance-enough : {n g l : ℕ} → verdict (m .expression) ≡ accepted n g l → l ≤ allowance → numberOf (ended m v buffer used allowance) ≢ 16
+  allowance-enough = steps.allowance-enough m v buffer used allowance
+
+  -- ---- how a run begins
+  -- a refused expression ends it, with 0 steps and no records; else refused inputs do; else the machine moves from its beginning
+  pub refused-early : {r k : ℕ} → verdict (m .expression) ≡ refused r k → ended m v buffer used allowance ≡ stopped r k 0 []
+  refused-early = steps.refused-early m v buffer used allowance
+
+  module _ {n g l : ℕ} (p : verdict (m .expression) ≡ accepted n g l) where
+    pub inputs-refused : inputRefusal m buffer used ≢ 0 → ended m v buffer used allowance ≡ stopped (inputRefusal m buffer used) 0 0 []
+    inputs-refused = steps.inputs-refused m v buffer used allowance p
+
+    pub inputs-fine : inputRefusal m buffer used ≡ 0 → ended m v buffer used allowance ≡ moves m (length buffer - used) allowance (begin v)
+    inputs-fine = steps.inputs-fine m v buffer used allowance p
+
+-- ---- R2 from any state on: `left` is the allowance less the steps done
+module _ (m : Fed) (room : ℕ) where
+  pub moves-allowed : (left : ℕ) (st : State) → stepsOf (moves m room left st) ≤ st .steps + left
+  moves-allowed = steps.moves-allowed m room
+
+  module _ {n g l : ℕ} (a : Accepted (m .expression) n g l) where
+    pub moves-longest : (left : ℕ) (st : State) → OnWalk (m .expression) (st .offset) (st .stack) (st .steps) → stepsOf (moves m room left st) ≤ l
+    moves-longest = steps.moves-longest m room a
+
+    pub moves-enough : (left : ℕ) (st : State) → OnWalk (m .expression) (st .offset) (st .stack) (st .steps) → l ≤ st .steps + left → numberOf (moves m room left st) ≢ 16
+    moves-enough = steps.moves-enough m room a
+
+-- ---- one instruction: the table agrees with the meaning
+module _ (m : Fed) (k : ℕ) (s v : List ℕ) (free : ℕ) where
+  -- an instruction that has its cells leaves as many as the table says, and the height after it is the table's
+  pub left-cells : {cells : List ℕ} {rs : List Record} → done m k s v free ≡ leaves cells rs → needed (m .expression) k ≤ length s → length cells ≡ left (m .expression) k
+  left-cells = cells.left-cells m k s v free
+
+  pub height-after : {cells : List ℕ} {rs : List Record} → done m k s v free ≡ leaves cells rs → needed (m .expression) k ≤ length s
+      → length (stackAfter (m .expression) k s cells) ≡ heightAfter (m .expression) k (length s)
+  height-after = cells.height-after m k s v free
+
+-- from an instruction that is no end, the machine goes where a walk may go
+pub after-offset : (e : List ℕ) (k : ℕ) (s : List ℕ) → kindAt e k ≢ kind-end → After e k (offsetAfter e k s)
+after-offset = cells.after-offset
+
+-- ---- what a loop needs, step by step: at the offset k, with the stack s, after i steps
+module _ {e : List ℕ} {n g l : ℕ} (a : Accepted e n g l) where
+  -- it begins on a walk
+  pub walk-begins : OnWalk e 0 [] 0
+  walk-begins = following.walk-begins a
+
+  module _ {k : ℕ} {s : List ℕ} {i : ℕ} (w : OnWalk e k s i) where
+    -- the instruction there is whole and known, has its cells, and what it leaves fits
+    pub walk-ready : Ready e l (w .list) k (length s)
+    walk-ready = following.walk-ready a w
+
+    -- with it the steps are at most the longest walk, and fewer where it is no end
+    pub steps-short : i + 1 ≤ l
+    steps-short = following.steps-short a w
+
+    pub steps-shorter : kindAt e k ≢ kind-end → i + 1 < l
+    steps-shorter = following.steps-shorter a w
+
+module _ (m : Fed) {n g l : ℕ} (a : Accepted (m .expression) n g l) {k : ℕ} {s : List ℕ} {i : ℕ} (w : OnWalk (m .expression) k s i) (v : List ℕ) (free : ℕ) where
+  -- after an instruction that is not refused and no end, it is on a walk again
+  pub walk-moves : {cells : List ℕ} {rs : List Record} → done m k s v free ≡ leaves cells rs → kindAt (m .expression) k ≢ kind-end
+      → OnWalk (m .expression) (offsetAfter (m .expression) k s) (stackAfter (m .expression) k s cells) (i + 1)
+  walk-moves = following.walk-moves m a w v free
+
+  -- a refusal there is one of 17 to 21
+  pub walk-faults : {r : ℕ} → done m k s v free ≡ faults r → (17 ≤ r) × (r ≤ 21)
+  walk-faults = following.walk-faults m a w v free

@@ -1,0 +1,119 @@
+-- The steps of a run: at most the allowance and at most the longest walk, which is enough of an allowance.
+use mathlib.Core.Bool.{Bool, true, false}
+use mathlib.Core.List.{List, []}
+use mathlib.Core.Logic.{_≢_}
+use mathlib.Core.Path.{_≡_, refl}
+use Prim.Native.Nat.{ℕ, zero, suc, _+_, _-_, _≤_, zero-le}
+use native.Mathlib.Omega.{arith}
+use lib.ListN.{length}
+use lib.Dec.{eqb}
+use borrow.Author.Tests.{ne-eqb, eqb-true, eqb-false}
+use Rattle.encoding.proofs.Promises.{tried-most}
+use Rattle.isa.specs.Classes.{kind-end}
+use Rattle.isa.specs.Decode.{kindAt}
+use Rattle.frames.specs.Record.{Record, encodeAll}
+use Rattle.verifier.specs.Verdict.{Verdict, accepted, refused, verdict}
+use Rattle.verifier.specs.Acceptance.{Accepted}
+use Rattle.verifier.proofs.Promises.{accepted-means}
+use Rattle.machine.specs.Fed.{Fed, State, begin}
+use Rattle.machine.specs.Meaning.{Done, leaves, faults, done}
+use Rattle.machine.specs.Machine.{Ended, completed, stopped, answer, moved, onward, moves}
+use Rattle.machine.specs.Run.{inputTests, inputRefusal, afterVerdict, ended, stepsOf, numberOf}
+use Rattle.machine.proofs.Cells.{by-test}
+use Rattle.machine.proofs.Following.{OnWalk, walk-begins, steps-short, walk-moves, walk-faults}
+
+-- ---- one move
+module _ (m : Fed) (go : State → Ended) (st : State) (P : Ended → Type 0) where
+  onward-to : (cells : List ℕ) (rs : List Record) (t : Bool) → (t ≡ true → P (completed (answer (st .stack)) (st .steps + 1) (st .variables) (st .records)))
+      → (t ≡ false → P (go (moved m st cells rs)))
+      → P (elim t [ true ↦ completed (answer (st .stack)) (st .steps + 1) (st .variables) (st .records) | false ↦ go (moved m st cells rs) ])
+  onward-to cells rs true f g = f refl
+  onward-to cells rs false f g = g refl
+
+  -- what holds at an end, after any other instruction and at a refusal holds after a move
+  onward-by : (d : Done) → (kindAt (m .expression) (st .offset) ≡ kind-end → P (completed (answer (st .stack)) (st .steps + 1) (st .variables) (st .records)))
+      → ((cells : List ℕ) (rs : List Record) → d ≡ leaves cells rs → kindAt (m .expression) (st .offset) ≢ kind-end → P (go (moved m st cells rs)))
+      → ((n : ℕ) → d ≡ faults n → P (stopped n (st .offset) (st .steps) (st .records)))
+      → P (onward m go st d)
+  onward-by (leaves cells rs) f g h =
+      onward-to cells rs (eqb (kindAt (m .expression) (st .offset)) kind-end) (λ t. f (eqb-true _ _ t)) (λ t. g cells rs refl (eqb-false _ _ t))
+  onward-by (faults n) f g h = h n refl
+
+-- ---- moves
+module _ (m : Fed) (room : ℕ) where
+  -- no more steps than are left
+  pub moves-allowed : (left : ℕ) (st : State) → stepsOf (moves m room left st) ≤ st .steps + left
+  unfolding moves stepsOf
+  moves-allowed zero st = omega arith
+  moves-allowed (suc left) st =
+      onward-by m (moves m room left) st (λ o. stepsOf o ≤ st .steps + suc left)
+      (done m (st .offset) (st .stack) (st .variables) (room - length (encodeAll (st .records))))
+      (λ _. omega arith) (λ cells rs p h. omega (arith, moves-allowed left (moved m st cells rs))) (λ n p. omega arith)
+
+  module _ {n g l : ℕ} (a : Accepted (m .expression) n g l) where
+    -- no more steps than the longest walk has instructions
+    pub moves-longest : (left : ℕ) (st : State) → OnWalk (m .expression) (st .offset) (st .stack) (st .steps) → stepsOf (moves m room left st) ≤ l
+    unfolding moves stepsOf
+    moves-longest zero st w = omega (arith, steps-short a w)
+    moves-longest (suc left) st w =
+        let free = room - length (encodeAll (st .records)) in
+        onward-by m (moves m room left) st (λ o. stepsOf o ≤ l) (done m (st .offset) (st .stack) (st .variables) free)
+        (λ _. steps-short a w) (λ cells rs p h. moves-longest left (moved m st cells rs) (walk-moves m a w (st .variables) free p h)) (λ n p. omega (arith, steps-short a w))
+
+    -- as many steps left as the longest walk still has are enough
+    pub moves-enough : (left : ℕ) (st : State) → OnWalk (m .expression) (st .offset) (st .stack) (st .steps) → l ≤ st .steps + left → numberOf (moves m room left st) ≢ 16
+    unfolding moves numberOf
+    moves-enough zero st w e = absurd (omega (arith, steps-short a w))
+    moves-enough (suc left) st w e =
+        let free = room - length (encodeAll (st .records)) in
+        onward-by m (moves m room left) st (λ o. numberOf o ≢ 16) (done m (st .offset) (st .stack) (st .variables) free)
+        (λ _. omega arith) (λ cells rs p h. moves-enough left (moved m st cells rs) (walk-moves m a w (st .variables) free p h) (omega arith))
+        (λ n p. omega (arith, walk-faults m a w (st .variables) free p))
+
+-- ---- whole runs
+module _ (m : Fed) (v buffer : List ℕ) (used allowance : ℕ) where
+  -- a refused expression and refused inputs end the run before it steps; else it steps from the beginning
+  pub refused-early : {r k : ℕ} → verdict (m .expression) ≡ refused r k → ended m v buffer used allowance ≡ stopped r k 0 []
+  unfolding ended
+  refused-early p = rw p
+
+  module _ {n g l : ℕ} (p : verdict (m .expression) ≡ accepted n g l) where
+    pub inputs-refused : inputRefusal m buffer used ≢ 0 → ended m v buffer used allowance ≡ stopped (inputRefusal m buffer used) 0 0 []
+    unfolding ended
+    inputs-refused h = rw (p, ne-eqb (inputRefusal m buffer used) 0 h)
+
+    pub inputs-fine : inputRefusal m buffer used ≡ 0 → ended m v buffer used allowance ≡ moves m (length buffer - used) allowance (begin v)
+    unfolding ended
+    inputs-fine h = rw (p, h)
+
+  refusal-low : inputRefusal m buffer used ≤ 15
+  unfolding inputRefusal
+  refusal-low = tried-most 15 (inputTests m buffer used) tt
+
+  after-allowed : (x : Verdict) → stepsOf (afterVerdict m v buffer used allowance x) ≤ allowance
+  unfolding stepsOf
+  after-allowed (accepted n g l) =
+      by-test (λ o. stepsOf o ≤ allowance) (eqb (inputRefusal m buffer used) 0) _ _
+      (λ _. omega (arith, moves-allowed m (length buffer - used) allowance (begin v))) (λ _. zero-le)
+  after-allowed (refused r k) = zero-le
+
+  -- never more steps than the allowance
+  pub steps-allowed : stepsOf (ended m v buffer used allowance) ≤ allowance
+  unfolding ended
+  steps-allowed = after-allowed (verdict (m .expression))
+
+  module _ {n g l : ℕ} (p : verdict (m .expression) ≡ accepted n g l) where
+    -- never more than the longest walk
+    pub steps-longest : stepsOf (ended m v buffer used allowance) ≤ l
+    unfolding ended stepsOf
+    steps-longest =
+        rw p (by-test (λ o. stepsOf o ≤ l) (eqb (inputRefusal m buffer used) 0) _ _
+        (λ _. let a = accepted-means (m .expression) p in moves-longest m (length buffer - used) a allowance (begin v) (walk-begins a)) (λ _. zero-le))
+
+    -- an allowance of the longest walk is never spent
+    pub allowance-enough : l ≤ allowance → numberOf (ended m v buffer used allowance) ≢ 16
+    unfolding ended numberOf
+    allowance-enough h =
+        rw p (by-test (λ o. numberOf o ≢ 16) (eqb (inputRefusal m buffer used) 0) _ _
+        (λ _. let a = accepted-means (m .expression) p in moves-enough m (length buffer - used) a allowance (begin v) (walk-begins a) (omega arith))
+        (λ _. omega (arith, refusal-low)))

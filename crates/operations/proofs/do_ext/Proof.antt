@@ -1,0 +1,35 @@
+use mathlib.Core.Path.{refl}
+use native.Mathlib.Omega.{arith}
+use Rattle.operations.proofs.Placing.{next-here}
+use borrow.Author.Needs.{needs}
+use Rattle.operations.proofs.do_ext.Statement.{statement}
+use Rattle.operations.proofs.do_ext.Tie as tie
+
+next-of-requires : tie.Need-next-of-requires
+next-of-requires c κs = search needs
+
+operand-at-requires : tie.Need-operand-at-requires
+operand-at-requires c κs = search needs
+
+below-requires : tie.Need-below-requires
+below-requires c κs = search needs
+
+ext-requires : tie.Need-ext-requires
+ext-requires c κs = omega (arith, c .before .before .before .before .before .pre .ext-some refl, c .before .before .operand-at .ensures .0)
+
+replace-requires : tie.Need-replace-requires
+replace-requires c κs = search needs
+
+returns : tie.Need-returns
+returns c = record { stop = refl; at = next-here (c .before .before .before .before .before .before .before .before .pre) (c .before .before .before .before .before .before .next-of .ensures); stack = cc; put = refl; long = c .replace .ensures .2 }
+
+pub do-ext-spec : {M : Type 1} → statement M
+do-ext-spec =
+    tie.close
+    (tie.spec
+    next-of-requires
+    operand-at-requires
+    below-requires
+    ext-requires
+    replace-requires
+    returns)

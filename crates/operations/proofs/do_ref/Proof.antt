@@ -1,0 +1,56 @@
+use denote.Ref.{now}
+use Rattle.encoding.specs.LittleEndian.{littleEndian}
+use lib.ListN.{take}
+use native.Mathlib.Nat.{sub-zero}
+use mathlib.Core.Path.{_≡_, refl, _∙_}
+use native.Mathlib.Omega.{arith}
+use Rattle.operations.proofs.Cases.{moves-to, stops-at, ref-left, ref-refused}
+use Rattle.operations.proofs.Placing.{next-here}
+use borrow.Author.Needs.{needs}
+use Rattle.operations.proofs.do_ref.Statement.{statement}
+use Rattle.operations.proofs.do_ref.Tie as tie
+
+next-of-requires : tie.Need-next-of-requires
+next-of-requires c κs = search needs
+
+below-requires : tie.Need-below-requires
+below-requires c κs = search needs
+
+rest-requires : tie.Need-rest-requires
+rest-requires c κs = search needs
+
+returns : tie.Need-returns
+returns c = let p = c .before .before .before .before .before .before .before .before .pre .1 in stops-at refl (c .before .before .before .before .before .before .before .before .pre .0 .long) (ref-refused _ _ (p .2) (p .0) (c .before .rest .ensures) (c .before .before .below .ensures) (omega arith)) refl refl refl
+
+sub-little-endian : tie.Need-sub-little-endian
+sub-little-endian c = search needs
+
+part-little-endian-start : tie.Need-part-little-endian-start
+part-little-endian-start c = search needs
+
+part-little-endian-end : tie.Need-part-little-endian-end
+part-little-endian-end c = search needs
+
+little-endian-requires : tie.Need-little-endian-requires
+little-endian-requires c κs = search needs
+
+replace-requires : tie.Need-replace-requires
+replace-requires c κs = search needs
+
+returns-2 : tie.Need-returns-2
+returns-2 c = let p = c .before .before .before .before .before .before .before .before .before .before .before .before .pre .1 in let w : c .before .before .little-endian .result ≡ littleEndian (take (c .before .before .before .before .before .before .before .before .before .before .before .before .args .count) (now (c .before .before .before .before .before .rest .result))) = c .before .before .little-endian .ensures .0 ∙ rw sub-zero refl in moves-to refl (c .replace .ensures .2) (ref-left _ _ (p .2) (p .0) (c .before .before .before .before .before .rest .ensures) (c .before .before .before .before .before .before .below .ensures) (omega arith)) refl (next-here (c .before .before .before .before .before .before .before .before .before .before .before .before .pre .0) (c .before .before .before .before .before .before .before .before .next-of .ensures)) (cc)
+
+pub do-ref-spec : {M : Type 1} → statement M
+do-ref-spec =
+    tie.close
+    (tie.spec
+    next-of-requires
+    below-requires
+    rest-requires
+    returns
+    sub-little-endian
+    part-little-endian-start
+    part-little-endian-end
+    little-endian-requires
+    replace-requires
+    returns-2)

@@ -1,0 +1,34 @@
+use mathlib.Core.Path.{refl}
+use Rattle.operations.proofs.Placing.{next-here}
+use borrow.Author.Needs.{needs}
+use Rattle.operations.proofs.do_zero_ext.Statement.{statement}
+use Rattle.operations.proofs.do_zero_ext.Tie as tie
+
+next-of-requires : tie.Need-next-of-requires
+next-of-requires c κs = search needs
+
+operand-at-requires : tie.Need-operand-at-requires
+operand-at-requires c κs = search needs
+
+below-requires : tie.Need-below-requires
+below-requires c κs = search needs
+
+zero-ext-requires : tie.Need-zero-ext-requires
+zero-ext-requires c κs = search needs
+
+replace-requires : tie.Need-replace-requires
+replace-requires c κs = search needs
+
+returns : tie.Need-returns
+returns c = record { stop = refl; at = next-here (c .before .before .before .before .before .before .before .before .pre) (c .before .before .before .before .before .before .next-of .ensures); stack = cc; put = refl; long = c .replace .ensures .2 }
+
+pub do-zero-ext-spec : {M : Type 1} → statement M
+do-zero-ext-spec =
+    tie.close
+    (tie.spec
+    next-of-requires
+    operand-at-requires
+    below-requires
+    zero-ext-requires
+    replace-requires
+    returns)

@@ -1,0 +1,512 @@
+// The instructions that neither record nor set a variable by themselves, one function for each class. Each is lent the cells and told the height;
+// it says nothing of steps, allowance or records so far.
+ghost use mathlib.Core.Bool.{cond, false};
+ghost use mathlib.Core.List.{_∷_, []};
+ghost use mathlib.Core.Path.{_≡_};
+ghost use Prim.Native.Nat.{_+_, _≤_, _<_};
+ghost use lib.ListN.{getD, set, take};
+ghost use lib.Dec.{eqb};
+ghost use Rattle.isa.specs.Classes.{binary, unary, ref, ext, «zero-ext», setv, «if-goto», goto, constant, reg, getv, dup, pop, swap, pick, rot, classOf, row};
+ghost use Rattle.isa.specs.Decode.{next, operand};
+ghost use Rattle.isa.specs.Held.{held};
+ghost use Rattle.isa.specs.Rows.{table};
+ghost use Rattle.arithmetic.specs.Words.{ext as extended, zeroExt as zeroExtended};
+ghost use Rattle.memory.specs.Spans.{spansRefusal};
+ghost use Rattle.machine.specs.Fed.{fed};
+ghost use Rattle.machine.specs.Words.{binaryWord, zeroDivisor, unaryWord};
+ghost use Rattle.machine.specs.Meaning.{leaves, binaryDone, refDone, regDone};
+ghost use Rattle.operations.specs.Here.{Here};
+ghost use Rattle.operations.specs.Moved.{Moved};
+use isa::Stack;
+
+// What an instruction leaves: the next offset, the height, the end of what is written, and 0, or 1 at an end, or a refusal's number.
+pub struct Next {
+    pub at: usize,
+    pub height: usize,
+    pub put: usize,
+    pub stop: u8,
+}
+
+// The next start, by the row of the opcode. A caller names the opcode by a literal, so that the row is known when this is compiled.
+pub fn next_of(rows: &[[u8; 4]; 53], opcode: u8, at: usize) -> usize
+    requires { ⌜ now rows ≡ table ⌝ ∗ ⌜ opcode < 53 ⌝ ∗ ⌜ at < 1024 ⌝ }
+    ensures { λ r. ⌜ r ≡ at + 1 + getD (row (classOf opcode)) 0 0 ⌝ }
+{
+    let row = isa::known_row(rows, opcode);
+    at + 1 + row.operands as usize
+}
+
+// Whether the divisor of the operator is zero.
+fn is_zero_divisor(opcode: u8, b: u64) -> bool
+    ensures { λ r. ⌜ r ≡ zeroDivisor opcode b ⌝ }
+{
+    if b != 0 {
+        return false;
+    }
+    if opcode < 0x05 {
+        return false;
+    }
+    opcode <= 0x08
+}
+
+fn binary_word(opcode: u8, a: u64, b: u64) -> u64
+    requires { ⌜ zeroDivisor opcode b ≡ false ⌝ }
+    ensures { λ r. ⌜ r ≡ binaryWord opcode a b ⌝ }
+{
+    match opcode {
+        0x02 => arithmetic::add(a, b),
+        0x03 => arithmetic::sub(a, b),
+        0x04 => arithmetic::mul(a, b),
+        0x05 => arithmetic::div_signed(a, b),
+        0x06 => arithmetic::div_unsigned(a, b),
+        0x07 => arithmetic::rem_signed(a, b),
+        0x08 => arithmetic::rem_unsigned(a, b),
+        0x09 => arithmetic::lsh(a, b),
+        0x0a => arithmetic::rsh_signed(a, b),
+        0x0b => arithmetic::rsh_unsigned(a, b),
+        0x0f => arithmetic::bit_and(a, b),
+        0x10 => arithmetic::bit_or(a, b),
+        0x11 => arithmetic::bit_xor(a, b),
+        0x13 => arithmetic::equal(a, b),
+        0x14 => arithmetic::less_signed(a, b),
+        _ => arithmetic::less_unsigned(a, b),
+    }
+}
+
+fn unary_word(opcode: u8, a: u64) -> u64
+    ensures { λ r. ⌜ r ≡ unaryWord opcode a ⌝ }
+{
+    if opcode == 0x0e {
+        return arithmetic::log_not(a);
+    }
+    arithmetic::bit_not(a)
+}
+
+// The 16 binary operators.
+pub fn do_binary(
+    rows: &[[u8; 4]; 53],
+    code: &[u8],
+    cells: &mut [u64; 64],
+    opcode: u8,
+    at: usize,
+    height: usize,
+    put: usize,
+) -> Next
+    requires { ⌜ Here (now rows) (now code) (now cells) binary opcode at height ⌝ }
+    ensures { λ r. ⌜ Moved at put (held (now (cells .entry)) height) (binaryDone opcode (getD (held (now (cells .entry)) height) 1 0) (getD (held (now (cells .entry)) height) 0 0)) (next (now (code .entry)) at) 2 r (now (cells .exit)) ⌝ }
+{
+    let next = next_of(rows, opcode, at);
+    let b = Stack::below(cells, height, 0);
+    let a = Stack::below(cells, height, 1);
+    if is_zero_divisor(opcode, b) {
+        return Next {
+            at,
+            height,
+            put,
+            stop: 17,
+        };
+    }
+    let word = binary_word(opcode, a, b);
+    let after = Stack::replace(cells, height, 2, word);
+    Next {
+        at: next,
+        height: after,
+        put,
+        stop: 0,
+    }
+}
+
+// log_not, bit_not.
+pub fn do_unary(
+    rows: &[[u8; 4]; 53],
+    code: &[u8],
+    cells: &mut [u64; 64],
+    opcode: u8,
+    at: usize,
+    height: usize,
+    put: usize,
+) -> Next
+    requires { ⌜ Here (now rows) (now code) (now cells) unary opcode at height ⌝ }
+    ensures { λ r. ⌜ Moved at put (held (now (cells .entry)) height) (leaves (unaryWord opcode (getD (held (now (cells .entry)) height) 0 0) ∷ []) []) (next (now (code .entry)) at) 1 r (now (cells .exit)) ⌝ }
+{
+    let next = next_of(rows, opcode, at);
+    let a = Stack::below(cells, height, 0);
+    let word = unary_word(opcode, a);
+    let after = Stack::replace(cells, height, 1, word);
+    Next {
+        at: next,
+        height: after,
+        put,
+        stop: 0,
+    }
+}
+
+// ext N.
+pub fn do_ext(
+    rows: &[[u8; 4]; 53],
+    code: &[u8],
+    cells: &mut [u64; 64],
+    at: usize,
+    height: usize,
+    put: usize,
+) -> Next
+    requires { ⌜ Here (now rows) (now code) (now cells) ext 22 at height ⌝ }
+    ensures { λ r. ⌜ Moved at put (held (now (cells .entry)) height) (leaves (extended (getD (held (now (cells .entry)) height) 0 0) (operand (now (code .entry)) at) ∷ []) []) (next (now (code .entry)) at) 1 r (now (cells .exit)) ⌝ }
+{
+    let next = next_of(rows, 0x16, at);
+    let n = isa::operand_at(code, at, 1);
+    let a = Stack::below(cells, height, 0);
+    let word = arithmetic::ext(a, n);
+    let after = Stack::replace(cells, height, 1, word);
+    Next {
+        at: next,
+        height: after,
+        put,
+        stop: 0,
+    }
+}
+
+// zero_ext N.
+pub fn do_zero_ext(
+    rows: &[[u8; 4]; 53],
+    code: &[u8],
+    cells: &mut [u64; 64],
+    at: usize,
+    height: usize,
+    put: usize,
+) -> Next
+    requires { ⌜ Here (now rows) (now code) (now cells) zero-ext 42 at height ⌝ }
+    ensures { λ r. ⌜ Moved at put (held (now (cells .entry)) height) (leaves (zeroExtended (getD (held (now (cells .entry)) height) 0 0) (operand (now (code .entry)) at) ∷ []) []) (next (now (code .entry)) at) 1 r (now (cells .exit)) ⌝ }
+{
+    let next = next_of(rows, 0x2a, at);
+    let n = isa::operand_at(code, at, 1);
+    let a = Stack::below(cells, height, 0);
+    let word = arithmetic::zero_ext(a, n);
+    let after = Stack::replace(cells, height, 1, word);
+    Next {
+        at: next,
+        height: after,
+        put,
+        stop: 0,
+    }
+}
+
+// ref8 to ref64: `count` bytes at the address on top. Neither 12 nor 13 is met, so that the bytes from there to the end of the span decide.
+pub fn do_ref<'a>(
+    rows: &[[u8; 4]; 53],
+    code: &[u8],
+    cells: &mut [u64; 64],
+    image_first: u64,
+    image: &'a [u8],
+    work_first: u64,
+    work: &'a [u8],
+    opcode: u8,
+    count: usize,
+    at: usize,
+    height: usize,
+    put: usize,
+) -> Next
+    requires { ⌜ Here (now rows) (now code) (now cells) (ref count) opcode at height ⌝ ∗ ⌜ (1 ≤ count) × (count ≤ 8) × (spansRefusal «image_first» (now image) «work_first» (now work) ≡ 0) ⌝ }
+    ensures { λ r. ⌜ Moved at put (held (now (cells .entry)) height) (refDone (fed (now (code .entry)) [] «image_first» (now (image .entry)) «work_first» (now (work .entry))) count (getD (held (now (cells .entry)) height) 0 0)) (next (now (code .entry)) at) 1 r (now (cells .exit)) ⌝ }
+{
+    let next = next_of(rows, opcode, at);
+    let address = Stack::below(cells, height, 0);
+    let rest = memory::rest(image_first, image, work_first, work, address);
+    if rest.len() < count {
+        return Next {
+            at,
+            height,
+            put,
+            stop: 19,
+        };
+    }
+    let word = encoding::little_endian(&rest[0..count]);
+    let after = Stack::replace(cells, height, 1, word);
+    Next {
+        at: next,
+        height: after,
+        put,
+        stop: 0,
+    }
+}
+
+// const8 to const64.
+pub fn do_constant(
+    rows: &[[u8; 4]; 53],
+    code: &[u8],
+    cells: &mut [u64; 64],
+    opcode: u8,
+    count: usize,
+    at: usize,
+    height: usize,
+    put: usize,
+) -> Next
+    requires { ⌜ Here (now rows) (now code) (now cells) (constant count) opcode at height ⌝ }
+    ensures { λ r. ⌜ Moved at put (held (now (cells .entry)) height) (leaves ((operand (now (code .entry)) at) ∷ []) []) (next (now (code .entry)) at) 0 r (now (cells .exit)) ⌝ }
+{
+    let next = next_of(rows, opcode, at);
+    let word = isa::operand_at(code, at, count);
+    let after = Stack::replace(cells, height, 0, word);
+    Next {
+        at: next,
+        height: after,
+        put,
+        stop: 0,
+    }
+}
+
+// reg N.
+pub fn do_reg(
+    rows: &[[u8; 4]; 53],
+    code: &[u8],
+    cells: &mut [u64; 64],
+    registers: &[u64],
+    at: usize,
+    height: usize,
+    put: usize,
+) -> Next
+    requires { ⌜ Here (now rows) (now code) (now cells) reg 38 at height ⌝ }
+    ensures { λ r. ⌜ Moved at put (held (now (cells .entry)) height) (regDone (fed (now (code .entry)) (now (registers .entry)) 0 [] 0 []) (operand (now (code .entry)) at)) (next (now (code .entry)) at) 0 r (now (cells .exit)) ⌝ }
+{
+    let next = next_of(rows, 0x26, at);
+    let n = isa::operand_at(code, at, 2) as usize;
+    if registers.len() <= n {
+        return Next {
+            at,
+            height,
+            put,
+            stop: 18,
+        };
+    }
+    let word = registers[n];
+    let after = Stack::replace(cells, height, 0, word);
+    Next {
+        at: next,
+        height: after,
+        put,
+        stop: 0,
+    }
+}
+
+// getv N.
+pub fn do_getv(
+    rows: &[[u8; 4]; 53],
+    code: &[u8],
+    cells: &mut [u64; 64],
+    variables: &[u64; 64],
+    at: usize,
+    height: usize,
+    put: usize,
+) -> Next
+    requires { ⌜ Here (now rows) (now code) (now cells) getv 44 at height ⌝ }
+    ensures { λ r. ⌜ Moved at put (held (now (cells .entry)) height) (leaves (getD (now (variables .entry)) (operand (now (code .entry)) at) 0 ∷ []) []) (next (now (code .entry)) at) 0 r (now (cells .exit)) ⌝ }
+{
+    let next = next_of(rows, 0x2c, at);
+    let n = isa::operand_at(code, at, 2) as usize;
+    let word = variables[n];
+    let after = Stack::replace(cells, height, 0, word);
+    Next {
+        at: next,
+        height: after,
+        put,
+        stop: 0,
+    }
+}
+
+// setv N: the cell stays.
+pub fn do_setv(
+    rows: &[[u8; 4]; 53],
+    code: &[u8],
+    cells: &[u64; 64],
+    variables: &mut [u64; 64],
+    at: usize,
+    height: usize,
+    put: usize,
+) -> Next
+    requires { ⌜ Here (now rows) (now code) (now cells) setv 45 at height ⌝ }
+    ensures moved { λ r. ⌜ Moved at put (held (now (cells .entry)) height) (leaves (getD (held (now (cells .entry)) height) 0 0 ∷ []) []) (next (now (code .entry)) at) 1 r (now (cells .entry)) ⌝ }
+    ensures set { λ _. ⌜ now (variables .exit) ≡ set (now (variables .entry)) (operand (now (code .entry)) at) (getD (held (now (cells .entry)) height) 0 0) ⌝ }
+{
+    let next = next_of(rows, 0x2d, at);
+    let n = isa::operand_at(code, at, 2) as usize;
+    let word = Stack::below(cells, height, 0);
+    variables[n] = word;
+    Next {
+        at: next,
+        height: height,
+        put,
+        stop: 0,
+    }
+}
+
+// goto.
+pub fn do_goto(
+    rows: &[[u8; 4]; 53],
+    code: &[u8],
+    cells: &[u64; 64],
+    at: usize,
+    height: usize,
+    put: usize,
+) -> Next
+    requires { ⌜ Here (now rows) (now code) (now cells) goto 33 at height ⌝ }
+    ensures { λ r. ⌜ Moved at put (held (now (cells .entry)) height) (leaves [] []) (operand (now (code .entry)) at) 0 r (now (cells .entry)) ⌝ }
+{
+    let target = isa::operand_at(code, at, 2) as usize;
+    Next {
+        at: target,
+        height: height,
+        put,
+        stop: 0,
+    }
+}
+
+// if_goto.
+pub fn do_if_goto(
+    rows: &[[u8; 4]; 53],
+    code: &[u8],
+    cells: &[u64; 64],
+    at: usize,
+    height: usize,
+    put: usize,
+) -> Next
+    requires { ⌜ Here (now rows) (now code) (now cells) if-goto 32 at height ⌝ }
+    ensures { λ r. ⌜ Moved at put (held (now (cells .entry)) height) (leaves [] []) (cond (eqb (getD (held (now (cells .entry)) height) 0 0) 0) (next (now (code .entry)) at) (operand (now (code .entry)) at)) 1 r (now (cells .entry)) ⌝ }
+{
+    let cell = Stack::below(cells, height, 0);
+    if cell == 0 {
+        let next = next_of(rows, 0x20, at);
+        return Next {
+            at: next,
+            height: height - 1,
+            put,
+            stop: 0,
+        };
+    }
+    let target = isa::operand_at(code, at, 2) as usize;
+    Next {
+        at: target,
+        height: height - 1,
+        put,
+        stop: 0,
+    }
+}
+
+// dup.
+pub fn do_dup(
+    rows: &[[u8; 4]; 53],
+    code: &[u8],
+    cells: &mut [u64; 64],
+    at: usize,
+    height: usize,
+    put: usize,
+) -> Next
+    requires { ⌜ Here (now rows) (now code) (now cells) dup 40 at height ⌝ }
+    ensures { λ r. ⌜ Moved at put (held (now (cells .entry)) height) (leaves ((getD (held (now (cells .entry)) height) 0 0) ∷ (getD (held (now (cells .entry)) height) 0 0) ∷ []) []) (next (now (code .entry)) at) 1 r (now (cells .exit)) ⌝ }
+{
+    let next = next_of(rows, 0x28, at);
+    let a = Stack::below(cells, height, 0);
+    let after = Stack::replace(cells, height, 0, a);
+    Next {
+        at: next,
+        height: after,
+        put,
+        stop: 0,
+    }
+}
+
+// pop.
+pub fn do_pop(
+    rows: &[[u8; 4]; 53],
+    code: &[u8],
+    cells: &[u64; 64],
+    at: usize,
+    height: usize,
+    put: usize,
+) -> Next
+    requires { ⌜ Here (now rows) (now code) (now cells) pop 41 at height ⌝ }
+    ensures { λ r. ⌜ Moved at put (held (now (cells .entry)) height) (leaves [] []) (next (now (code .entry)) at) 1 r (now (cells .entry)) ⌝ }
+{
+    let next = next_of(rows, 0x29, at);
+    Next {
+        at: next,
+        height: height - 1,
+        put,
+        stop: 0,
+    }
+}
+
+// swap.
+pub fn do_swap(
+    rows: &[[u8; 4]; 53],
+    code: &[u8],
+    cells: &mut [u64; 64],
+    at: usize,
+    height: usize,
+    put: usize,
+) -> Next
+    requires { ⌜ Here (now rows) (now code) (now cells) swap 43 at height ⌝ }
+    ensures { λ r. ⌜ Moved at put (held (now (cells .entry)) height) (leaves ((getD (held (now (cells .entry)) height) 1 0) ∷ (getD (held (now (cells .entry)) height) 0 0) ∷ []) []) (next (now (code .entry)) at) 2 r (now (cells .exit)) ⌝ }
+{
+    let next = next_of(rows, 0x2b, at);
+    let b = Stack::below(cells, height, 0);
+    let a = Stack::below(cells, height, 1);
+    let lower = Stack::replace(cells, height, 2, b);
+    let after = Stack::replace(cells, lower, 0, a);
+    Next {
+        at: next,
+        height: after,
+        put,
+        stop: 0,
+    }
+}
+
+// pick N.
+pub fn do_pick(
+    rows: &[[u8; 4]; 53],
+    code: &[u8],
+    cells: &mut [u64; 64],
+    at: usize,
+    height: usize,
+    put: usize,
+) -> Next
+    requires { ⌜ Here (now rows) (now code) (now cells) pick 50 at height ⌝ }
+    ensures { λ r. ⌜ Moved at put (held (now (cells .entry)) height) (leaves (getD (held (now (cells .entry)) height) (operand (now (code .entry)) at) 0 ∷ take ((operand (now (code .entry)) at) + 1) (held (now (cells .entry)) height)) []) (next (now (code .entry)) at) ((operand (now (code .entry)) at) + 1) r (now (cells .exit)) ⌝ }
+{
+    let next = next_of(rows, 0x32, at);
+    let n = isa::operand_at(code, at, 1) as usize;
+    let a = Stack::below(cells, height, n);
+    let after = Stack::replace(cells, height, 0, a);
+    Next {
+        at: next,
+        height: after,
+        put,
+        stop: 0,
+    }
+}
+
+// rot: a b c to c a b, with b on top.
+pub fn do_rot(
+    rows: &[[u8; 4]; 53],
+    code: &[u8],
+    cells: &mut [u64; 64],
+    at: usize,
+    height: usize,
+    put: usize,
+) -> Next
+    requires { ⌜ Here (now rows) (now code) (now cells) rot 51 at height ⌝ }
+    ensures { λ r. ⌜ Moved at put (held (now (cells .entry)) height) (leaves ((getD (held (now (cells .entry)) height) 1 0) ∷ (getD (held (now (cells .entry)) height) 2 0) ∷ (getD (held (now (cells .entry)) height) 0 0) ∷ []) []) (next (now (code .entry)) at) 3 r (now (cells .exit)) ⌝ }
+{
+    let next = next_of(rows, 0x33, at);
+    let c = Stack::below(cells, height, 0);
+    let b = Stack::below(cells, height, 1);
+    let a = Stack::below(cells, height, 2);
+    let first = Stack::replace(cells, height, 3, c);
+    let second = Stack::replace(cells, first, 0, a);
+    let after = Stack::replace(cells, second, 0, b);
+    Next {
+        at: next,
+        height: after,
+        put,
+        stop: 0,
+    }
+}
