@@ -33,6 +33,10 @@ afterVerdict m v buffer used allowance (refused r k) = stopped r k 0 []
 unfoldable pub ended : Fed → List ℕ → List ℕ → ℕ → ℕ → Ended
 ended m v buffer used allowance = afterVerdict m v buffer used allowance (verdict (m .expression))
 
+-- "1,024 if none is given"
+abbrev pub defaultAllowance : ℕ
+defaultAllowance = 1024
+
 -- ---- what a run returns besides: variables, buffer and used length
 -- the bytes written from the old used length on: the records, and the trailer where the run completed
 unfoldable pub leftBytes : ℕ → Ended → List ℕ

@@ -5,7 +5,7 @@ use mathlib.Core.Path.{_≡_}
 use Prim.Native.Nat.{ℕ, _+_, _-_, _≤_, _<_}
 use lib.ListN.{length, getD}
 use lib.Dec.{eqb}
-use Rattle.isa.specs.Classes.{Class, classOf, row, kind, kind-ext, kind-variable, kind-pick}
+use Rattle.isa.specs.Classes.{Class, classOf, row, kind, kind-unsupported, kind-ext, kind-variable, kind-pick}
 use Rattle.isa.specs.Decode.{operandBytes, next, operand, needed, heightAfter}
 use Rattle.isa.specs.Rows.{table}
 
@@ -15,6 +15,7 @@ pub record Place (rows : List (List ℕ)) (code a : List ℕ) (at h : ℕ) : Typ
   pub long : length a ≡ 64
   pub short : length code ≤ 1024
   pub inside : next code at ≤ length code
+  pub supported : kind-unsupported < kind (classOf (getD code at 0))
   pub ext-some : kind (classOf (getD code at 0)) ≡ kind-ext → 1 ≤ operand code at
   pub variable-low : kind (classOf (getD code at 0)) ≡ kind-variable → operand code at < 64
   pub cells : needed code at ≤ h

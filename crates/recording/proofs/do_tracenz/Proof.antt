@@ -1,0 +1,49 @@
+use mathlib.Core.List.{[]}
+use mathlib.Core.Path.{refl}
+use Rattle.isa.proofs.Promises.{held-drop}
+use Rattle.operations.proofs.Placing.{next-here}
+use Rattle.recording.proofs.Making.{zero-fed}
+use Rattle.recording.proofs.Logging.{kept-as, logged}
+use borrow.Author.Needs.{needs}
+use Rattle.recording.proofs.do_tracenz.Statement.{statement}
+use Rattle.recording.proofs.do_tracenz.Tie as tie
+
+next-of-requires : tie.Need-next-of-requires
+next-of-requires c κs = search needs
+
+below-requires : tie.Need-below-requires
+below-requires c κs = search needs
+
+below-requires-2 : tie.Need-below-requires-2
+below-requires-2 c κs = search needs
+
+record-to-zero-requires : tie.Need-record-to-zero-requires
+record-to-zero-requires c κs = search needs
+
+sub-onward : tie.Need-sub-onward
+sub-onward c = search needs
+
+onward-requires : tie.Need-onward-requires
+onward-requires c κs = search needs
+
+same-length : tie.Need-same-length
+same-length c = search needs
+
+returns : tie.Need-returns
+returns c =
+    let w = c .before .before .before in let b = w .before .before in let n = b .before .before in let s = n .before .before .before .before .before in
+    logged [] _ (kept-as (zero-fed _ _ _ _ _ _ _ (b .below2 .ensures) (b .before .below .ensures)) (w .record-to-zero .ensures)) (c .onward .ensures)
+    (next-here (s .pre .0) (n .next-of .ensures)) refl (held-drop _ _ 2 (s .pre .0 .cells)) (s .pre .0 .long)
+
+pub do-tracenz-spec : {M : Type 1} → statement M
+do-tracenz-spec =
+    tie.close
+    (tie.spec
+    next-of-requires
+    below-requires
+    below-requires-2
+    record-to-zero-requires
+    sub-onward
+    onward-requires
+    same-length
+    returns)

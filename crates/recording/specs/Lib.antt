@@ -1,0 +1,2 @@
+-- What the functions of `recording` give.
+pub mod Logged

@@ -1,0 +1,58 @@
+use mathlib.Core.Path.{sym, ap, _∙_}
+use denote.Ref.{now}
+use Rattle.machine.specs.Run.{inputRefusal}
+use Rattle.verifier.specs.Verdict.{verdictOf}
+use Rattle.machine.specs.Fed.{fed}
+use Rattle.runner.proofs.Inputs.{inputs-fit}
+use Rattle.runner.proofs.Entering.{is-accepted, enter-refused, enter-inputs, enter-loop}
+use borrow.Author.Needs.{needs}
+use Rattle.runner.proofs.run_by.Statement.{statement}
+use Rattle.runner.proofs.run_by.Tie as tie
+
+verify-by-requires : tie.Need-verify-by-requires
+verify-by-requires c κs = search needs
+
+enum-known-number : tie.Need-enum-known-number
+enum-known-number c = search needs
+
+enum-known-count : tie.Need-enum-known-count
+enum-known-count c = search needs
+
+inputs-refusal-requires : tie.Need-inputs-refusal-requires
+inputs-refusal-requires c κs = search needs
+
+same-length : tie.Need-same-length
+same-length c = search needs
+
+returns : tie.Need-returns
+unfolding inputRefusal
+returns c = let s = c .before .before .before .before .before .before .before .before .before .before .before .before in enter-inputs (fed (now (s .args .code)) (now (s .args .registers)) (s .args .image-first) (now (s .args .image)) (s .args .work-first) (now (s .args .work))) (s .args .tracepoint) _ _ (s .args .used) (s .args .allowance) (sym (c .before .before .before .before .before .before .verify-by .ensures) ∙ ap verdictOf (c .before .before .before .before .count .given .1)) (c .before .inputs-refusal .ensures) (c .if1 .taken)
+
+run-accepted-requires : tie.Need-run-accepted-requires
+unfolding inputRefusal
+run-accepted-requires c κs = let s = c .before .before .before .before .before .before .before .before .before .before .before .before .before .before in let z = inputs-fit (fed (now (s .args .code)) (now (s .args .registers)) (s .args .image-first) (now (s .args .image)) (s .args .work-first) (now (s .args .work))) (now (s .args .buffer)) (s .args .used) (sym (c .before .before .before .inputs-refusal .ensures) ∙ c .before .before .if1 .left) in (s .pre, is-accepted (sym (c .before .before .before .before .before .before .before .before .verify-by .ensures) ∙ ap verdictOf (c .before .before .before .before .before .before .count .given .1)), z .0, z .1, z .2)
+
+returns-2 : tie.Need-returns-2
+returns-2 c = let s = c .before .before .before .before .before .before .before .before .before in enter-refused (fed (now (s .args .code)) (now (s .args .registers)) (s .args .image-first) (now (s .args .image)) (s .args .work-first) (now (s .args .work))) (s .args .tracepoint) _ _ (s .args .used) (s .args .allowance) (sym (c .before .before .before .verify-by .ensures) ∙ ap verdictOf (c .before .number .given .1))
+
+same-length-2 : tie.Need-same-length-2
+same-length-2 c = search needs
+
+returns-3 : tie.Need-returns-3
+unfolding inputRefusal
+returns-3 c = let s = c .before .before .before .before .before .before .before .before .before .before .before .before .before .before .before .before .before in enter-loop (fed (now (s .args .code)) (now (s .args .registers)) (s .args .image-first) (now (s .args .image)) (s .args .work-first) (now (s .args .work))) (s .args .tracepoint) _ _ (s .args .used) (s .args .allowance) (sym (c .before .before .before .before .before .before .before .before .before .before .before .verify-by .ensures) ∙ ap verdictOf (c .before .before .before .before .before .before .before .before .before .count .given .1)) (c .before .before .before .before .before .before .inputs-refusal .ensures) (c .before .before .before .before .before .if1 .left) (c .before .before .run-accepted .ensures)
+
+pub run-by-spec : {M : Type 1} → statement M
+run-by-spec =
+    tie.close
+    (tie.spec
+    verify-by-requires
+    enum-known-number
+    enum-known-count
+    inputs-refusal-requires
+    same-length
+    returns
+    run-accepted-requires
+    returns-2
+    same-length-2
+    returns-3)

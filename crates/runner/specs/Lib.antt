@@ -1,0 +1,2 @@
+-- What the functions of `runner` give, in terms of document 01's machine.
+pub mod Returned

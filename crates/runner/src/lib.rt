@@ -1,0 +1,252 @@
+// Runs: the loop that follows document 01's machine, and the public entries.
+ghost use mathlib.Core.List.{[]};
+ghost use mathlib.Core.Path.{_≡_};
+ghost use Prim.Native.Nat.{_+_, _-_, _≤_, _<_};
+ghost use lib.ListN.{length};
+ghost use Rattle.encoding.specs.Written.{writtenAt};
+ghost use Rattle.isa.specs.Held.{held};
+ghost use Rattle.isa.specs.Rows.{table};
+ghost use Rattle.memory.specs.Spans.{spansRefusal};
+ghost use Rattle.frames.specs.Trailer.{trailerSize, encodeTrailer};
+ghost use Rattle.machine.specs.Fed.{fed, begin};
+ghost use Rattle.machine.specs.Machine.{answer, moves};
+ghost use Rattle.machine.specs.Run.{inputRefusal, ended, defaultAllowance};
+ghost use Rattle.runner.specs.Returned.{answerOf, IsAccepted, Ran};
+use isa::Stack;
+use verifier::Answer;
+
+// What is on top of the stack at an end: no value, the top, or the top and the cell beneath.
+pub enum Value {
+    Nothing,
+    Top(u64),
+    TopAndBeneath(u64, u64),
+}
+
+// Completed: answer, steps, used length. Refused: number, offset, steps.
+pub enum Outcome {
+    Completed(Value, u64, usize),
+    Refused(u8, usize, u64),
+}
+
+// Used by the entry that is given no allowance.
+pub const DEFAULT_ALLOWANCE: u64 = 1024;
+
+fn value_of(cells: &[u64; 64], height: usize) -> Value
+    requires { ⌜ height ≤ 64 ⌝ }
+    ensures { λ r. ⌜ answerOf r ≡ answer (held (now (cells .entry)) height) ⌝ }
+{
+    if height == 0 {
+        return Value::Nothing;
+    }
+    let top = cells[height - 1];
+    if height == 1 {
+        return Value::Top(top);
+    }
+    Value::TopAndBeneath(top, cells[height - 2])
+}
+
+// Closes the frame whose records end at `put`. The caller has seen that there is room.
+fn close_frame(buffer: &mut [u8], put: usize, tracepoint: u16, size: usize)
+    requires { ⌜ put + trailerSize ≤ length (now buffer) ⌝ ∗ ⌜ size < 65537 ⌝ }
+    ensures { λ _. ⌜ now (buffer .exit) ≡ writtenAt (now (buffer .entry)) put (encodeTrailer tracepoint size) ⌝ }
+{
+    frames::trailer::append_trailer(buffer, put, tracepoint, size as u32);
+}
+
+// A run of an accepted expression on inputs that 12 to 15 allow. The variables are copied, and written back on completion alone.
+fn run_accepted<'a>(
+    rows: &[[u8; 4]; 53],
+    code: &[u8],
+    registers: &[u64],
+    image_first: u64,
+    image: &'a [u8],
+    work_first: u64,
+    work: &'a [u8],
+    variables: &mut [u64; 64],
+    buffer: &mut [u8],
+    used: usize,
+    tracepoint: u16,
+    allowance: u64,
+) -> Outcome
+    requires { ⌜ (now rows ≡ table) × IsAccepted (now code) × (spansRefusal «image_first» (now image) «work_first» (now work) ≡ 0) × (used ≤ length (now buffer)) × (length (now buffer) ≤ 65536) ⌝ }
+    ensures { λ r. ⌜ Ran tracepoint (now (variables .entry)) (now (buffer .entry)) used (moves (fed (now (code .entry)) (now (registers .entry)) «image_first» (now (image .entry)) «work_first» (now (work .entry))) (length (now (buffer .entry)) - used) allowance (begin (now (variables .entry)))) r (now (variables .exit)) (now (buffer .exit)) ⌝ }
+{
+    let mut own = *variables;
+    let mut stack = Stack::empty();
+    let mut at = 0;
+    let mut put = used;
+    let mut steps = 0;
+    while steps < allowance {
+        let height = stack.height;
+        let next = stepping::step(
+            rows,
+            code,
+            registers,
+            image_first,
+            image,
+            work_first,
+            work,
+            &mut stack.cells,
+            &mut own,
+            buffer,
+            at,
+            height,
+            put,
+        );
+        if next.stop != 0 {
+            if next.stop == 1 {
+                let value = value_of(&stack.cells, next.height);
+                close_frame(buffer, put, tracepoint, put - used);
+                *variables = own;
+                return Outcome::Completed(value, steps + 1, put + frames::trailer::TRAILER_SIZE);
+            }
+            return Outcome::Refused(next.stop, at, steps);
+        }
+        at = next.at;
+        stack.height = next.height;
+        put = next.put;
+        steps += 1;
+    }
+    Outcome::Refused(16, at, steps)
+}
+
+// 12 to 15, tried in that order; 0 where none is met.
+fn inputs_refusal(
+    registers: &[u64],
+    image_first: u64,
+    image: &[u8],
+    work_first: u64,
+    work: &[u8],
+    buffer: &[u8],
+    used: usize,
+) -> u8
+    ensures { λ r. ⌜ r ≡ inputRefusal (fed [] (now (registers .entry)) «image_first» (now (image .entry)) «work_first» (now (work .entry))) (now (buffer .entry)) used ⌝ }
+{
+    let refusal = memory::spans_refusal(image_first, image, work_first, work);
+    if refusal != 0 {
+        return refusal;
+    }
+    if registers.len() > 256 {
+        return 14;
+    }
+    if buffer.len() > 65536 {
+        return 15;
+    }
+    if used > buffer.len() {
+        return 15;
+    }
+    0
+}
+
+// A run with the instruction table lent.
+fn run_by<'a>(
+    rows: &[[u8; 4]; 53],
+    code: &[u8],
+    registers: &[u64],
+    image_first: u64,
+    image: &'a [u8],
+    work_first: u64,
+    work: &'a [u8],
+    variables: &mut [u64; 64],
+    buffer: &mut [u8],
+    used: usize,
+    tracepoint: u16,
+    allowance: u64,
+) -> Outcome
+    requires { ⌜ now rows ≡ table ⌝ }
+    ensures { λ r. ⌜ Ran tracepoint (now (variables .entry)) (now (buffer .entry)) used (ended (fed (now (code .entry)) (now (registers .entry)) «image_first» (now (image .entry)) «work_first» (now (work .entry))) (now (variables .entry)) (now (buffer .entry)) used allowance) r (now (variables .exit)) (now (buffer .exit)) ⌝ }
+{
+    match verifier::verify_by(rows, code) {
+        Answer::Refused(number, offset) => Outcome::Refused(number, offset, 0),
+        Answer::Accepted(count, greatest, longest) => {
+            let refusal = inputs_refusal(
+                registers,
+                image_first,
+                image,
+                work_first,
+                work,
+                buffer,
+                used,
+            );
+            if refusal != 0 {
+                return Outcome::Refused(refusal, 0, 0);
+            }
+            run_accepted(
+                rows,
+                code,
+                registers,
+                image_first,
+                image,
+                work_first,
+                work,
+                variables,
+                buffer,
+                used,
+                tracepoint,
+                allowance,
+            )
+        }
+    }
+}
+
+// Verifies the expression, checks the inputs, and runs it: at most `allowance` instructions.
+pub fn run<'a>(
+    code: &[u8],
+    registers: &[u64],
+    image_first: u64,
+    image: &'a [u8],
+    work_first: u64,
+    work: &'a [u8],
+    variables: &mut [u64; 64],
+    buffer: &mut [u8],
+    used: usize,
+    tracepoint: u16,
+    allowance: u64,
+) -> Outcome
+    ensures { λ r. ⌜ Ran tracepoint (now (variables .entry)) (now (buffer .entry)) used (ended (fed (now (code .entry)) (now (registers .entry)) «image_first» (now (image .entry)) «work_first» (now (work .entry))) (now (variables .entry)) (now (buffer .entry)) used allowance) r (now (variables .exit)) (now (buffer .exit)) ⌝ }
+{
+    run_by(
+        &isa::ROWS,
+        code,
+        registers,
+        image_first,
+        image,
+        work_first,
+        work,
+        variables,
+        buffer,
+        used,
+        tracepoint,
+        allowance,
+    )
+}
+
+// The same without an allowance given.
+pub fn run_default<'a>(
+    code: &[u8],
+    registers: &[u64],
+    image_first: u64,
+    image: &'a [u8],
+    work_first: u64,
+    work: &'a [u8],
+    variables: &mut [u64; 64],
+    buffer: &mut [u8],
+    used: usize,
+    tracepoint: u16,
+) -> Outcome
+    ensures { λ r. ⌜ Ran tracepoint (now (variables .entry)) (now (buffer .entry)) used (ended (fed (now (code .entry)) (now (registers .entry)) «image_first» (now (image .entry)) «work_first» (now (work .entry))) (now (variables .entry)) (now (buffer .entry)) used defaultAllowance) r (now (variables .exit)) (now (buffer .exit)) ⌝ }
+{
+    run(
+        code,
+        registers,
+        image_first,
+        image,
+        work_first,
+        work,
+        variables,
+        buffer,
+        used,
+        tracepoint,
+        DEFAULT_ALLOWANCE,
+    )
+}

@@ -1,0 +1,2 @@
+-- The work behind the contract of `step`.
+pub mod Lifting

@@ -1,0 +1,225 @@
+-- From what a function of a class gives to what a step gives.
+use mathlib.Core.Bool.{Bool, true, false, cond, not, _&&_}
+use mathlib.Core.List.{List, [], _∷_, _++_}
+use mathlib.Core.Logic.{_≢_}
+use mathlib.Core.Path.{_≡_, refl, ap, sym, _∙_}
+use Prim.Native.Nat.{ℕ, _+_, _≤_, _<_}
+use native.Mathlib.Nat.{add-zero}
+use native.Mathlib.Omega.{arith}
+use lib.ListN.{length, getD, drop, set}
+use lib.Dec.{eqb, leb}
+use borrow.Author.Tests.{ne-eqb}
+use Rattle.encoding.proofs.Promises.{written-nothing}
+use Rattle.isa.specs.Classes.{Class, unsupported, unknown, member, opcodes, classOf, row, kind, kind-unsupported, kind-goto, kind-if-goto, kind-end}
+use Rattle.isa.specs.Decode.{classAt, next, operand}
+use Rattle.isa.specs.Held.{held}
+use Rattle.isa.proofs.Promises.{needed-class}
+use Rattle.frames.specs.Record.{Record, encodeAll}
+use Rattle.frames.specs.Trailer.{trailerSize}
+use Rattle.machine.specs.Fed.{Fed}
+use Rattle.machine.specs.Meaning.{Done, leaves, faults, meaning, endDone, done, stackAfter, variablesAfter, offsetAfter}
+use Rattle.operations.specs.declared.Next.{Next}
+use Rattle.operations.specs.Here.{onTop}
+use Rattle.operations.specs.Moved.{Quiet, Moved}
+use Rattle.recording.specs.Logged.{Logged}
+use Rattle.stepping.specs.Effect.{goes, completes, effectOf, effect, Did, Ends}
+
+-- where an instruction of the class goes
+abbrev pub offsetBy : Class → List ℕ → ℕ → List ℕ → ℕ
+offsetBy c e k s =
+    cond (eqb (kind c) kind-goto) (operand e k)
+    (cond (eqb (kind c) kind-if-goto && not (eqb (getD s 0 0) 0)) (operand e k) (next e k))
+
+-- if_goto goes on where the cell is 0
+pub branch-offset : (b : Bool) (x y : ℕ) → cond (not b) x y ≡ cond b y x
+branch-offset true x y = refl
+branch-offset false x y = refl
+
+module _ (m : Fed) (k : ℕ) (s v : List ℕ) (free op : ℕ) (c : Class) (q : classOf op ≡ c) (f : getD (m .expression) k 0 ≡ op) where
+  class-at : classAt (m .expression) k ≡ c
+  class-at = ap classOf f ∙ q
+
+  done-at : done m k s v free ≡ meaning m s v free op (operand (m .expression) k) c
+  unfolding done
+  done-at = rw (f, q) refl
+
+  offset-at : offsetAfter (m .expression) k s ≡ offsetBy c (m .expression) k s
+  unfolding offsetAfter
+  offset-at = rw class-at refl
+
+  stack-at : (cells : List ℕ) → stackAfter (m .expression) k s cells ≡ cells ++ drop (getD (row c) 1 0 + onTop c (m .expression) k) s
+  unfolding stackAfter
+  stack-at cells = rw (needed-class (m .expression) k c class-at) refl
+
+  stack-is : {n : ℕ} → getD (row c) 1 0 + onTop c (m .expression) k ≡ n → (cells : List ℕ) → stackAfter (m .expression) k s cells ≡ cells ++ drop n s
+  stack-is w cells = stack-at cells ∙ ap (λ (x : ℕ). cells ++ drop x s) w
+
+  -- an instruction that is no end and leaves cells goes on
+  on-goes : eqb (kind c) kind-end ≡ false → (cells : List ℕ) (rs : List Record)
+      → effectOf (m .expression) k s v (leaves cells rs) ≡ goes (offsetAfter (m .expression) k s) (stackAfter (m .expression) k s cells) (variablesAfter (m .expression) k s v) rs
+  on-goes z cells rs = rw (class-at, z) refl
+
+  same-variables : eqb op 0x2d ≡ false → variablesAfter (m .expression) k s v ≡ v
+  unfolding variablesAfter
+  same-variables z = rw (f, z) refl
+
+  set-variables : eqb op 0x2d ≡ true → variablesAfter (m .expression) k s v ≡ set v (operand (m .expression) k) (getD s 0 0)
+  unfolding variablesAfter
+  set-variables z = rw (f, z) refl
+
+  module _ (z : eqb (kind c) kind-end ≡ false) {b : List ℕ} {p : ℕ} {r : Next} {a : List ℕ} {t n : ℕ}
+      (o : offsetBy c (m .expression) k s ≡ t) (w : getD (row c) 1 0 + onTop c (m .expression) k ≡ n) where
+    moved-by : (d : Done) {v′ : List ℕ} → variablesAfter (m .expression) k s v ≡ v′ → Quiet d → Moved k p s d t n r a → p ≤ length b
+        → ((x : ℕ) → d ≡ faults x → v′ ≡ v) → Did k s v b p (effectOf (m .expression) k s v d) r a v′ b
+    unfolding encodeAll
+    moved-by (leaves cells rs) y e d h u = rw (on-goes z cells rs, e) (record {
+      stop = d .stop;
+      at = d .at ∙ sym (offset-at ∙ o);
+      stack = d .stack ∙ sym (stack-is w cells);
+      put = rw add-zero (d .put);
+      variables = sym y;
+      buffer = sym (written-nothing b p);
+      room = omega (arith, d .put);
+      long = d .long;
+    })
+    moved-by (faults x) y e d h u = record {
+      stop = d .stop;
+      at = d .at;
+      stack = d .stack;
+      put = rw add-zero (d .put);
+      variables = u x refl;
+      buffer = sym (written-nothing b p);
+      room = omega (arith, d .put);
+      long = d .long;
+    }
+
+    pub did-moved : {d : Done} → eqb op 0x2d ≡ false → meaning m s v free op (operand (m .expression) k) c ≡ d → Quiet d → Moved k p s d t n r a → p ≤ length b
+        → Did k s v b p (effect m k s v free) r a v b
+    unfolding effect
+    did-moved {d} y g e u h = rw (done-at ∙ g) (moved-by d (same-variables y) e u h (λ x i. refl))
+
+    pub did-set : {cells v′ : List ℕ} → eqb op 0x2d ≡ true → meaning m s v free op (operand (m .expression) k) c ≡ leaves cells []
+        → v′ ≡ set v (operand (m .expression) k) (getD s 0 0) → Moved k p s (leaves cells []) t n r a → p ≤ length b
+        → Did k s v b p (effect m k s v free) r a v′ b
+    unfolding effect
+    did-set {cells} y g i u h =
+        rw (done-at ∙ g) (moved-by (leaves cells []) (set-variables y ∙ sym i) refl u h (λ x j. absurd (let n : _≡_ {A = ℕ} 0 1 = cc in omega arith)))
+
+    logged-by : (d : Done) {b′ : List ℕ} → eqb op 0x2d ≡ false → Logged k p s b d t n r a b′ → Did k s v b p (effectOf (m .expression) k s v d) r a v b′
+    logged-by (leaves cells rs) y d = rw (on-goes z cells rs) (record {
+      stop = d .stop;
+      at = d .at ∙ sym (offset-at ∙ o);
+      stack = d .stack ∙ sym (stack-is w cells);
+      put = d .put;
+      variables = sym (same-variables y);
+      buffer = d .buffer;
+      room = d .room;
+      long = d .long;
+    })
+    logged-by (faults x) y d = record {
+      stop = d .stop;
+      at = d .at;
+      stack = d .stack;
+      put = d .put;
+      variables = refl;
+      buffer = d .buffer;
+      room = d .room;
+      long = d .long;
+    }
+
+    pub did-logged : {d : Done} {b′ : List ℕ} → eqb op 0x2d ≡ false → meaning m s v free op (operand (m .expression) k) c ≡ d → Logged k p s b d t n r a b′
+        → Did k s v b p (effect m k s v free) r a v b′
+    unfolding effect
+    did-logged {d} y g u = rw (done-at ∙ g) (logged-by d y u)
+
+  -- an end completes where the trailer fits
+  ended-by : (x : Bool) → eqb (kind c) kind-end ≡ true → {b : List ℕ} {p : ℕ} {r : Next} {a : List ℕ} → r .stop ≡ cond x 1 21 → r .at ≡ k → r .put ≡ p → held a (r .height) ≡ s → p ≤ length b → length a ≡ 64
+      → Did k s v b p (effectOf (m .expression) k s v (cond x (leaves [] []) (faults 21))) r a v b
+  unfolding encodeAll
+  ended-by true z {b} {p} e i u h l g = rw (class-at, z) (record {
+    stop = e;
+    at = i;
+    stack = h;
+    put = rw add-zero u;
+    variables = refl;
+    buffer = sym (written-nothing b p);
+    room = omega arith;
+    long = g;
+  })
+  ended-by false z {b} {p} e i u h l g = record {
+    stop = e;
+    at = i;
+    stack = h;
+    put = rw add-zero u;
+    variables = refl;
+    buffer = sym (written-nothing b p);
+    room = omega arith;
+    long = g;
+  }
+
+  pub did-end : eqb (kind c) kind-end ≡ true → meaning m s v free op (operand (m .expression) k) c ≡ endDone free → {b : List ℕ} {p h : ℕ} {r : Next} {a : List ℕ}
+      → Ends k h p free r → held a h ≡ s → p ≤ length b → length a ≡ 64 → Did k s v b p (effect m k s v free) r a v b
+  unfolding effect endDone
+  did-end z g {a = a} e h l w = rw (done-at ∙ g) (ended-by (leb trailerSize free) z (e .stop) (e .at) (e .put) (ap (held a) (e .height) ∙ h) l w)
+
+-- ---- no supported opcode is left for the last arm
+abbrev pub NoneOf44 : ℕ → Type 0
+NoneOf44 op = ((((((((((((((((((((((((((((((((((((((((((((Unit {0} × (op ≢ 0x02)) × (op ≢ 0x03)) × (op ≢ 0x04)) × (op ≢ 0x05)) × (op ≢ 0x06)) × (op ≢ 0x07)) × (op ≢ 0x08)) × (op ≢ 0x09)) × (op ≢ 0x0a)) × (op ≢ 0x0b)) × (op ≢ 0x0f)) × (op ≢ 0x10)) × (op ≢ 0x11)) × (op ≢ 0x13)) × (op ≢ 0x14)) × (op ≢ 0x15)) × (op ≢ 0x0c)) × (op ≢ 0x2f)) × (op ≢ 0x0e)) × (op ≢ 0x12)) × (op ≢ 0x17)) × (op ≢ 0x18)) × (op ≢ 0x19)) × (op ≢ 0x1a)) × (op ≢ 0x0d)) × (op ≢ 0x30)) × (op ≢ 0x16)) × (op ≢ 0x2a)) × (op ≢ 0x2d)) × (op ≢ 0x20)) × (op ≢ 0x21)) × (op ≢ 0x22)) × (op ≢ 0x23)) × (op ≢ 0x24)) × (op ≢ 0x25)) × (op ≢ 0x26)) × (op ≢ 0x2c)) × (op ≢ 0x2e)) × (op ≢ 0x27)) × (op ≢ 0x28)) × (op ≢ 0x29)) × (op ≢ 0x2b)) × (op ≢ 0x32)) × (op ≢ 0x33))
+
+least : (b : Bool) → kind (cond b unsupported unknown) ≤ kind-unsupported
+least true = omega arith
+least false = omega arith
+
+unsupported-else : (op : ℕ) → NoneOf44 op → kind (classOf op) ≤ kind-unsupported
+unfolding classOf opcodes
+unsupported-else op h =
+    rw (
+      ne-eqb op 0x02 (h .0 .0 .0 .0 .0 .0 .0 .0 .0 .0 .0 .0 .0 .0 .0 .0 .0 .0 .0 .0 .0 .0 .0 .0 .0 .0 .0 .0 .0 .0 .0 .0 .0 .0 .0 .0 .0 .0 .0 .0 .0 .0 .0 .1),
+      ne-eqb op 0x03 (h .0 .0 .0 .0 .0 .0 .0 .0 .0 .0 .0 .0 .0 .0 .0 .0 .0 .0 .0 .0 .0 .0 .0 .0 .0 .0 .0 .0 .0 .0 .0 .0 .0 .0 .0 .0 .0 .0 .0 .0 .0 .0 .1),
+      ne-eqb op 0x04 (h .0 .0 .0 .0 .0 .0 .0 .0 .0 .0 .0 .0 .0 .0 .0 .0 .0 .0 .0 .0 .0 .0 .0 .0 .0 .0 .0 .0 .0 .0 .0 .0 .0 .0 .0 .0 .0 .0 .0 .0 .0 .1),
+      ne-eqb op 0x05 (h .0 .0 .0 .0 .0 .0 .0 .0 .0 .0 .0 .0 .0 .0 .0 .0 .0 .0 .0 .0 .0 .0 .0 .0 .0 .0 .0 .0 .0 .0 .0 .0 .0 .0 .0 .0 .0 .0 .0 .0 .1),
+      ne-eqb op 0x06 (h .0 .0 .0 .0 .0 .0 .0 .0 .0 .0 .0 .0 .0 .0 .0 .0 .0 .0 .0 .0 .0 .0 .0 .0 .0 .0 .0 .0 .0 .0 .0 .0 .0 .0 .0 .0 .0 .0 .0 .1),
+      ne-eqb op 0x07 (h .0 .0 .0 .0 .0 .0 .0 .0 .0 .0 .0 .0 .0 .0 .0 .0 .0 .0 .0 .0 .0 .0 .0 .0 .0 .0 .0 .0 .0 .0 .0 .0 .0 .0 .0 .0 .0 .0 .1),
+      ne-eqb op 0x08 (h .0 .0 .0 .0 .0 .0 .0 .0 .0 .0 .0 .0 .0 .0 .0 .0 .0 .0 .0 .0 .0 .0 .0 .0 .0 .0 .0 .0 .0 .0 .0 .0 .0 .0 .0 .0 .0 .1),
+      ne-eqb op 0x09 (h .0 .0 .0 .0 .0 .0 .0 .0 .0 .0 .0 .0 .0 .0 .0 .0 .0 .0 .0 .0 .0 .0 .0 .0 .0 .0 .0 .0 .0 .0 .0 .0 .0 .0 .0 .0 .1),
+      ne-eqb op 0x0a (h .0 .0 .0 .0 .0 .0 .0 .0 .0 .0 .0 .0 .0 .0 .0 .0 .0 .0 .0 .0 .0 .0 .0 .0 .0 .0 .0 .0 .0 .0 .0 .0 .0 .0 .0 .1),
+      ne-eqb op 0x0b (h .0 .0 .0 .0 .0 .0 .0 .0 .0 .0 .0 .0 .0 .0 .0 .0 .0 .0 .0 .0 .0 .0 .0 .0 .0 .0 .0 .0 .0 .0 .0 .0 .0 .0 .1),
+      ne-eqb op 0x0f (h .0 .0 .0 .0 .0 .0 .0 .0 .0 .0 .0 .0 .0 .0 .0 .0 .0 .0 .0 .0 .0 .0 .0 .0 .0 .0 .0 .0 .0 .0 .0 .0 .0 .1),
+      ne-eqb op 0x10 (h .0 .0 .0 .0 .0 .0 .0 .0 .0 .0 .0 .0 .0 .0 .0 .0 .0 .0 .0 .0 .0 .0 .0 .0 .0 .0 .0 .0 .0 .0 .0 .0 .1),
+      ne-eqb op 0x11 (h .0 .0 .0 .0 .0 .0 .0 .0 .0 .0 .0 .0 .0 .0 .0 .0 .0 .0 .0 .0 .0 .0 .0 .0 .0 .0 .0 .0 .0 .0 .0 .1),
+      ne-eqb op 0x13 (h .0 .0 .0 .0 .0 .0 .0 .0 .0 .0 .0 .0 .0 .0 .0 .0 .0 .0 .0 .0 .0 .0 .0 .0 .0 .0 .0 .0 .0 .0 .1),
+      ne-eqb op 0x14 (h .0 .0 .0 .0 .0 .0 .0 .0 .0 .0 .0 .0 .0 .0 .0 .0 .0 .0 .0 .0 .0 .0 .0 .0 .0 .0 .0 .0 .0 .1),
+      ne-eqb op 0x15 (h .0 .0 .0 .0 .0 .0 .0 .0 .0 .0 .0 .0 .0 .0 .0 .0 .0 .0 .0 .0 .0 .0 .0 .0 .0 .0 .0 .0 .1),
+      ne-eqb op 0x0c (h .0 .0 .0 .0 .0 .0 .0 .0 .0 .0 .0 .0 .0 .0 .0 .0 .0 .0 .0 .0 .0 .0 .0 .0 .0 .0 .0 .1),
+      ne-eqb op 0x2f (h .0 .0 .0 .0 .0 .0 .0 .0 .0 .0 .0 .0 .0 .0 .0 .0 .0 .0 .0 .0 .0 .0 .0 .0 .0 .0 .1),
+      ne-eqb op 0x0e (h .0 .0 .0 .0 .0 .0 .0 .0 .0 .0 .0 .0 .0 .0 .0 .0 .0 .0 .0 .0 .0 .0 .0 .0 .0 .1),
+      ne-eqb op 0x12 (h .0 .0 .0 .0 .0 .0 .0 .0 .0 .0 .0 .0 .0 .0 .0 .0 .0 .0 .0 .0 .0 .0 .0 .0 .1),
+      ne-eqb op 0x17 (h .0 .0 .0 .0 .0 .0 .0 .0 .0 .0 .0 .0 .0 .0 .0 .0 .0 .0 .0 .0 .0 .0 .0 .1),
+      ne-eqb op 0x18 (h .0 .0 .0 .0 .0 .0 .0 .0 .0 .0 .0 .0 .0 .0 .0 .0 .0 .0 .0 .0 .0 .0 .1),
+      ne-eqb op 0x19 (h .0 .0 .0 .0 .0 .0 .0 .0 .0 .0 .0 .0 .0 .0 .0 .0 .0 .0 .0 .0 .0 .1),
+      ne-eqb op 0x1a (h .0 .0 .0 .0 .0 .0 .0 .0 .0 .0 .0 .0 .0 .0 .0 .0 .0 .0 .0 .0 .1),
+      ne-eqb op 0x0d (h .0 .0 .0 .0 .0 .0 .0 .0 .0 .0 .0 .0 .0 .0 .0 .0 .0 .0 .0 .1),
+      ne-eqb op 0x30 (h .0 .0 .0 .0 .0 .0 .0 .0 .0 .0 .0 .0 .0 .0 .0 .0 .0 .0 .1),
+      ne-eqb op 0x16 (h .0 .0 .0 .0 .0 .0 .0 .0 .0 .0 .0 .0 .0 .0 .0 .0 .0 .1),
+      ne-eqb op 0x2a (h .0 .0 .0 .0 .0 .0 .0 .0 .0 .0 .0 .0 .0 .0 .0 .0 .1),
+      ne-eqb op 0x2d (h .0 .0 .0 .0 .0 .0 .0 .0 .0 .0 .0 .0 .0 .0 .0 .1),
+      ne-eqb op 0x20 (h .0 .0 .0 .0 .0 .0 .0 .0 .0 .0 .0 .0 .0 .0 .1),
+      ne-eqb op 0x21 (h .0 .0 .0 .0 .0 .0 .0 .0 .0 .0 .0 .0 .0 .1),
+      ne-eqb op 0x22 (h .0 .0 .0 .0 .0 .0 .0 .0 .0 .0 .0 .0 .1),
+      ne-eqb op 0x23 (h .0 .0 .0 .0 .0 .0 .0 .0 .0 .0 .0 .1),
+      ne-eqb op 0x24 (h .0 .0 .0 .0 .0 .0 .0 .0 .0 .0 .1),
+      ne-eqb op 0x25 (h .0 .0 .0 .0 .0 .0 .0 .0 .0 .1),
+      ne-eqb op 0x26 (h .0 .0 .0 .0 .0 .0 .0 .0 .1),
+      ne-eqb op 0x2c (h .0 .0 .0 .0 .0 .0 .0 .1),
+      ne-eqb op 0x2e (h .0 .0 .0 .0 .0 .0 .1),
+      ne-eqb op 0x27 (h .0 .0 .0 .0 .0 .1),
+      ne-eqb op 0x28 (h .0 .0 .0 .0 .1),
+      ne-eqb op 0x29 (h .0 .0 .0 .1),
+      ne-eqb op 0x2b (h .0 .0 .1),
+      ne-eqb op 0x32 (h .0 .1),
+      ne-eqb op 0x33 (h .1),
+    )
+    (least (member op (0x01 ∷ 0x1b ∷ 0x1c ∷ 0x1d ∷ 0x1e ∷ 0x1f ∷ 0x34 ∷ [])))
+
+pub none-left {ℓ} : {X : Type ℓ} (op : ℕ) → NoneOf44 op → kind-unsupported < kind (classOf op) → X
+none-left op h l = absurd (omega (arith, unsupported-else op h))
