@@ -3,3 +3,4 @@ pub mod Promises
 pub mod Cells
 pub mod Following
 pub mod Steps
+pub mod Recorded

@@ -1,23 +1,27 @@
--- What users of `machine` may cite: promise R2, how a run ends before it steps, and what a loop that follows the machine needs at each step.
--- The definitions that it names are in specs/: Machine (the moves), Run (a run on any input); and of other crates `isa` Walk, `verifier` Acceptance.
+-- What users of `machine` may cite: promises R2 and R3, how a run ends before it steps, and what a loop that follows the machine needs at each step.
+-- The definitions that it names are in specs/: Machine (the moves), Run (a run on any input), Recorded (what its records hold); and of other crates `isa` Walk, `verifier` Acceptance.
 use mathlib.Core.List.{List, []}
 use mathlib.Core.Logic.{_≢_}
 use mathlib.Core.Path.{_≡_}
 use Prim.Native.Nat.{ℕ, _+_, _-_, _≤_, _<_}
-use lib.ListN.{length}
+use lib.ListN.{length, getD}
 use Rattle.isa.specs.Classes.{kind-end}
 use Rattle.isa.specs.Decode.{kindAt, needed, left, heightAfter}
 use Rattle.isa.specs.Walk.{After}
-use Rattle.frames.specs.Record.{Record}
+use Rattle.memory.specs.Spans.{spansRefusal}
+use Rattle.memory.specs.Fetch.{targetByte}
+use Rattle.frames.specs.Record.{Record, memory}
 use Rattle.verifier.specs.Verdict.{accepted, refused, verdict}
 use Rattle.verifier.specs.Acceptance.{Accepted, Ready}
 use Rattle.machine.specs.Fed.{Fed, State, begin}
 use Rattle.machine.specs.Meaning.{leaves, faults, done, stackAfter, offsetAfter}
 use Rattle.machine.specs.Machine.{stopped, moves}
 use Rattle.machine.specs.Run.{inputRefusal, ended, stepsOf, numberOf}
+use Rattle.machine.specs.Recorded.{FromTarget, AllFromTarget, recordsOf}
 use Rattle.machine.proofs.Cells as cells
 use Rattle.machine.proofs.Following as following
 use Rattle.machine.proofs.Steps as steps
+use Rattle.machine.proofs.Recorded as recorded
 -- OnWalk e k s i: some walk of e from offset 0 to k arrives with the height of the stack s and has i instructions before k.
 pub use Rattle.machine.proofs.Following.{OnWalk}
 
@@ -100,3 +104,16 @@ module _ (m : Fed) {n g l : ℕ} (a : Accepted (m .expression) n g l) {k : ℕ} 
   -- a refusal there is one of 17 to 21
   pub walk-faults : {r : ℕ} → done m k s v free ≡ faults r → (17 ≤ r) × (r ≤ 21)
   walk-faults = following.walk-faults m a w v free
+
+-- ---- R3: each recorded byte is the target's byte at the recorded address
+-- a memory record of a run, completed or stopped, holds exactly the bytes of the one span that holds its range
+pub records-from-target : (m : Fed) (v buffer : List ℕ) (used allowance : ℕ) → AllFromTarget m (recordsOf (ended m v buffer used allowance))
+records-from-target = recorded.records-from-target
+
+-- the same byte by byte, where inputs are not refused
+pub spans-fine : (m : Fed) (buffer : List ℕ) (used : ℕ) → inputRefusal m buffer used ≡ 0 → spansRefusal (m .image-first) (m .image) (m .work-first) (m .work) ≡ 0
+spans-fine = recorded.spans-fine
+
+pub recorded-byte : (m : Fed) → spansRefusal (m .image-first) (m .image) (m .work-first) (m .work) ≡ 0 → (a : ℕ) (bytes : List ℕ) → FromTarget m (memory a bytes)
+    → (i : ℕ) → i < length bytes → getD bytes i 0 ≡ targetByte (m .image-first) (m .image) (m .work-first) (m .work) (a + i)
+recorded-byte = recorded.recorded-byte

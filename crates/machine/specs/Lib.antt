@@ -6,3 +6,4 @@ pub mod Recording
 pub mod Meaning
 pub mod Machine
 pub mod Run
+pub mod Recorded

@@ -1,5 +1,7 @@
 -- `Promises` is the page for users of this crate; the others hold the work behind it.
 pub mod Answering
-pub mod Entering
 pub mod Inputs
+pub mod Entering
 pub mod Looping
+pub mod Reporting
+pub mod Promises

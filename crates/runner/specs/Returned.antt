@@ -32,6 +32,11 @@ abbrev pub returnedBy : Outcome → Returned
 returnedBy (Completed a n u) = completedWith (answerOf a) n u
 returnedBy (Refused r k n) = refusedWith r k n
 
+-- the steps that the code reports
+abbrev pub stepsReported : Outcome → ℕ
+stepsReported (Completed a n u) = n
+stepsReported (Refused r k n) = n
+
 -- the run ended as the machine: o is how the machine ended, v, b and u are given, v′ and b′ are what the run leaves
 pub record Ran (t : ℕ) (v b : List ℕ) (u : ℕ) (o : Ended) (r : Outcome) (v′ b′ : List ℕ) : Type 0 where
   pub answer : returnedBy r ≡ returned t u o

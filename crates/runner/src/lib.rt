@@ -42,7 +42,8 @@ fn value_of(cells: &[u64; 64], height: usize) -> Value
     if height == 1 {
         return Value::Top(top);
     }
-    Value::TopAndBeneath(top, cells[height - 2])
+    let beneath = cells[height - 2];
+    Value::TopAndBeneath(top, beneath)
 }
 
 // Closes the frame whose records end at `put`. The caller has seen that there is room.
@@ -77,6 +78,7 @@ fn run_accepted<'a>(
     let mut put = used;
     let mut steps = 0;
     while steps < allowance {
+        let counted = steps + 1;
         let height = stack.height;
         let next = stepping::step(
             rows,
@@ -98,14 +100,14 @@ fn run_accepted<'a>(
                 let value = value_of(&stack.cells, next.height);
                 close_frame(buffer, put, tracepoint, put - used);
                 *variables = own;
-                return Outcome::Completed(value, steps + 1, put + frames::trailer::TRAILER_SIZE);
+                return Outcome::Completed(value, counted, put + frames::trailer::TRAILER_SIZE);
             }
             return Outcome::Refused(next.stop, at, steps);
         }
         at = next.at;
         stack.height = next.height;
         put = next.put;
-        steps += 1;
+        steps = counted;
     }
     Outcome::Refused(16, at, steps)
 }

@@ -20,6 +20,9 @@ empty-requires c κs = search needs
 loop-holds : tie.Need-loop-holds Inv-loop μ-loop
 loop-holds c = let s = c .before .before .before .before .before .before .before in loop-start (s .pre .1 .accepts) _ _ _ _ (c .empty .result) (s .pre .3) (c .empty .ensures .0) (ap length (c .empty .ensures .1))
 
+add-counted : tie.Need-add-counted Inv-loop μ-loop
+add-counted c = omega (arith, c .before .before .before .before .before .before .before .before .before .fits .allowance, c .loop-test .taken)
+
 step-requires : tie.Need-step-requires Inv-loop μ-loop
 step-requires c κs = let q = c .before .before .before .before in let s = c .before .before .before .before .before .before .before .before .before .before .before .before in (place (s .pre .1 .accepts) (q .loop .inv) (s .pre .0), (omega (arith, q .loop .inv .room, as-long (q .loop .inv)), s .pre .2))
 
@@ -32,11 +35,8 @@ sub-close-frame c = room-left (c .before .before .before .before .before .before
 close-frame-requires : tie.Need-close-frame-requires Inv-loop μ-loop
 close-frame-requires c κs = let s = c .before .before .before .before .before .before .before .before .before .before .before .before .before .before .before .before .before .before .before .before .before .before .before in let e = room-left (s .pre .1 .accepts) (c .before .before .before .before .before .before .before .before .before .before .before .before .before .before .before .loop .inv) (c .before .before .before .before .before .before .before .before .before .before .before .before .before .before .loop-test .taken) (c .before .before .before .before .before .before .before .before .before .before .step .ensures) (c .before .before .before .before .if2 .taken) in (e .1, omega (arith, e, s .pre .4))
 
-add-t35 : tie.Need-add-t35 Inv-loop μ-loop
-add-t35 c = omega (arith, c .before .before .before .before .before .before .before .before .before .before .before .before .before .before .before .before .before .before .before .before .before .before .before .before .before .before .fits .allowance, c .before .before .before .before .before .before .before .before .before .before .before .before .before .before .before .before .before .loop-test .taken)
-
-add-t33 : tie.Need-add-t33 Inv-loop μ-loop
-add-t33 c = let s = c .before .before .before .before .before .before .before .before .before .before .before .before .before .before .before .before .before .before .before .before .before .before .before .before .before .before in let e = room-left (s .pre .1 .accepts) (c .before .before .before .before .before .before .before .before .before .before .before .before .before .before .before .before .before .before .loop .inv) (c .before .before .before .before .before .before .before .before .before .before .before .before .before .before .before .before .before .loop-test .taken) (c .before .before .before .before .before .before .before .before .before .before .before .before .before .step .ensures) (c .before .before .before .before .before .before .before .if2 .taken) in omega (arith, e, s .pre .4)
+add-t34 : tie.Need-add-t34 Inv-loop μ-loop
+add-t34 c = let s = c .before .before .before .before .before .before .before .before .before .before .before .before .before .before .before .before .before .before .before .before .before .before .before .before .before .before in let e = room-left (s .pre .1 .accepts) (c .before .before .before .before .before .before .before .before .before .before .before .before .before .before .before .before .before .before .loop .inv) (c .before .before .before .before .before .before .before .before .before .before .before .before .before .before .before .before .before .loop-test .taken) (c .before .before .before .before .before .before .before .before .before .before .before .before .before .step .ensures) (c .before .before .before .before .before .before .before .if2 .taken) in omega (arith, e, s .pre .4)
 
 same-length : tie.Need-same-length Inv-loop μ-loop
 same-length c = let s = c .before .before .before .before .before .before .before .before .before .before .before .before .before .before .before .before .before .before .before .before .before .before .before .before .before .before in c .before .before .close-frame .kept .0 ∙ room-left (s .pre .1 .accepts) (c .before .before .before .before .before .before .before .before .before .before .before .before .before .before .before .before .before .before .loop .inv) (c .before .before .before .before .before .before .before .before .before .before .before .before .before .before .before .before .before .loop-test .taken) (c .before .before .before .before .before .before .before .before .before .before .before .before .before .step .ensures) (c .before .before .before .before .before .before .before .if2 .taken) .2
@@ -49,9 +49,6 @@ same-length-2 c = c .before .before .before .before .before .before .step .kept 
 
 returns-2 : tie.Need-returns-2 Inv-loop μ-loop
 returns-2 c = let s = c .before .before .before .before .before .before .before .before .before .before .before .before .before .before .before .before .before .before .before in halts (s .pre .1 .accepts) (c .before .before .before .before .before .before .before .before .before .before .before .loop .inv) (c .before .before .before .before .before .before .before .before .before .before .loop-test .taken) (c .before .before .before .before .before .before .step .ensures) (c .before .before .if1 .taken) (c .if2 .left) (s .args .tracepoint)
-
-add-steps : tie.Need-add-steps Inv-loop μ-loop
-add-steps c = omega (arith, c .before .before .before .before .before .before .before .before .before .before .before .before .before .before .before .before .before .fits .allowance, c .before .before .before .before .before .before .before .before .loop-test .taken)
 
 loop-less : tie.Need-loop-less Inv-loop μ-loop
 loop-less c = omega arith
@@ -73,17 +70,16 @@ run-accepted-spec =
     μ-loop
     empty-requires
     loop-holds
+    add-counted
     step-requires
     value-of-requires
     sub-close-frame
     close-frame-requires
-    add-t35
-    add-t33
+    add-t34
     same-length
     returns
     same-length-2
     returns-2
-    add-steps
     loop-less
     loop-again
     same-length-3

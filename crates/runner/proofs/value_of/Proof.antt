@@ -19,14 +19,14 @@ element-copy-out-top c = search needs
 returns-2 : tie.Need-returns-2
 returns-2 c = answer-one (now (c .before .before .before .args .cells)) (c .before .before .before .args .height) (c .if2 .taken)
 
-sub-t5 : tie.Need-sub-t5
-sub-t5 c = search needs
+sub-beneath : tie.Need-sub-beneath
+sub-beneath c = search needs
 
-mul-t6 : tie.Need-mul-t6
-mul-t6 c = search needs
+mul-beneath : tie.Need-mul-beneath
+mul-beneath c = search needs
 
-element-copy-out-t9 : tie.Need-element-copy-out-t9
-element-copy-out-t9 c = search needs
+element-copy-out-beneath : tie.Need-element-copy-out-beneath
+element-copy-out-beneath c = search needs
 
 returns-3 : tie.Need-returns-3
 returns-3 c = answer-two (now (c .before .before .before .before .args .cells)) (c .before .before .before .before .args .height) (c .before .before .before .if1 .left) (c .before .if2 .left)
@@ -40,7 +40,7 @@ value-of-spec =
     mul-top
     element-copy-out-top
     returns-2
-    sub-t5
-    mul-t6
-    element-copy-out-t9
+    sub-beneath
+    mul-beneath
+    element-copy-out-beneath
     returns-3)

@@ -1,0 +1,22 @@
+-- What the records of a run hold (document 01, "Meanings the manual leaves open": "readable exactly if all of it lies in one span").
+use mathlib.Core.List.{List, [], _∷_}
+use mathlib.Core.Logic.{_⊎_}
+use lib.ListN.{length}
+use Rattle.frames.specs.Record.{Record, memory, variable}
+use Rattle.memory.specs.Fetch.{PartOf}
+use Rattle.machine.specs.Fed.{Fed}
+use Rattle.machine.specs.Machine.{Ended, completed, stopped}
+
+-- a memory record holds the bytes of the one span that holds every address of its range; a variable record holds no memory
+abbrev pub FromTarget : Fed → Record → Type 0
+FromTarget m (memory a bytes) = PartOf (m .image-first) (m .image) a (length bytes) bytes ⊎ PartOf (m .work-first) (m .work) a (length bytes) bytes
+FromTarget m (variable n x) = Unit {0}
+
+abbrev pub AllFromTarget : Fed → List Record → Type 0
+AllFromTarget m [] = Unit {0}
+AllFromTarget m (r ∷ rs) = FromTarget m r × AllFromTarget m rs
+
+-- the records made, whether the run completed or stopped
+unfoldable pub recordsOf : Ended → List Record
+recordsOf (completed a n v rs) = rs
+recordsOf (stopped r k n rs) = rs
