@@ -7,3 +7,4 @@ pub mod Meaning
 pub mod Machine
 pub mod Run
 pub mod Recorded
+pub mod Examples
