@@ -1,18 +1,23 @@
-//! Cases for the vectors. Nothing here evaluates a case: the outcomes are
-//! found elsewhere. Each family has its own generator of numbers, so a change
+//! Cases for the vectors. The outcomes are found elsewhere; only the buffers and
+//! allowances of runs are fitted to what a trial run does. Each family has its own generator of numbers, so a change
 //! in one leaves the others as they are.
 
 mod edges;
 pub mod examples;
 mod faults;
+mod frames;
+mod memory;
 mod mutate;
 mod noise;
 mod operands;
 mod program;
+pub mod runs;
 mod shapes;
 mod structured;
+mod words;
 
 use crate::isa;
+use crate::leaf::Case;
 use crate::random::Random;
 use std::collections::BTreeSet;
 
@@ -45,13 +50,41 @@ pub fn verifier_cases() -> Vec<Vec<u8>> {
     without_repeats(all.concat())
 }
 
-fn many(random: &mut Random, count: usize, make: fn(&mut Random) -> Vec<u8>) -> Vec<Vec<u8>> {
+/// The cases of the vectors for words, memory and frames, each once.
+pub fn leaf_cases() -> Vec<Case> {
+    let all = [
+        words::cases(),
+        words::random(&mut family(21), 32),
+        memory::cases(&mut family(22)),
+        many(&mut family(23), 350, memory::near_fetch),
+        many(&mut family(24), 100, memory::near_rest),
+        memory::searches(&mut family(25)),
+        many(&mut family(26), 100, memory::random_search),
+        frames::examples(),
+        frames::writes(&mut family(27)),
+        many(&mut family(28), 200, frames::random_write),
+        frames::lists(&mut family(29), 120),
+        frames::flips(&mut family(30)),
+        frames::numbers(&mut family(31)),
+        frames::cuts(&mut family(32)),
+        many(&mut family(33), 150, frames::changed),
+    ];
+    without_repeats(all.concat())
+}
+
+/// The cases of the vectors for runs, each once.
+pub fn run_cases() -> Vec<runs::Case> {
+    let number = |number| family(40 + number);
+    without_repeats(runs::cases(number))
+}
+
+fn many<T>(random: &mut Random, count: usize, make: fn(&mut Random) -> T) -> Vec<T> {
     (0..count).map(|_| make(random)).collect()
 }
 
-fn without_repeats(cases: Vec<Vec<u8>>) -> Vec<Vec<u8>> {
+fn without_repeats<T: Clone + Ord>(cases: Vec<T>) -> Vec<T> {
     let mut seen = BTreeSet::new();
-    let first = |case: &Vec<u8>| seen.insert(case.clone());
+    let first = |case: &T| seen.insert(case.clone());
     cases.into_iter().filter(first).collect()
 }
 

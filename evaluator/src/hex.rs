@@ -5,6 +5,14 @@ pub fn write(bytes: &[u8]) -> String {
     bytes.iter().map(|byte| format!("{byte:02x}")).collect()
 }
 
+/// The same as a field of a line: `-` stands for no bytes.
+pub fn field(bytes: &[u8]) -> String {
+    if bytes.is_empty() {
+        return "-".to_string();
+    }
+    write(bytes)
+}
+
 /// Reads groups of digits divided by blanks. Each group holds whole bytes.
 pub fn read(text: &str) -> Result<Vec<u8>, String> {
     let mut bytes = Vec::new();
@@ -35,5 +43,7 @@ mod tests {
     #[test]
     fn writes_two_lower_case_digits_for_a_byte() {
         assert_eq!(write(&[0x00, 0x0a, 0xff]), "000aff");
+        assert_eq!((write(&[]), field(&[])), (String::new(), "-".to_string()));
+        assert_eq!(field(&[0x00]), "00");
     }
 }

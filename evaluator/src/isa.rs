@@ -8,16 +8,50 @@ pub const CELLS: usize = 64;
 /// "There are 64 trace state variables, 0 to 63."
 pub const VARIABLES: u64 = 64;
 
+pub const ADD: u8 = 0x02;
+pub const SUB: u8 = 0x03;
+pub const MUL: u8 = 0x04;
+pub const DIV_SIGNED: u8 = 0x05;
+pub const DIV_UNSIGNED: u8 = 0x06;
+pub const REM_SIGNED: u8 = 0x07;
+pub const REM_UNSIGNED: u8 = 0x08;
+pub const LSH: u8 = 0x09;
+pub const RSH_SIGNED: u8 = 0x0a;
+pub const RSH_UNSIGNED: u8 = 0x0b;
+pub const TRACE: u8 = 0x0c;
+pub const TRACE_QUICK: u8 = 0x0d;
+pub const LOG_NOT: u8 = 0x0e;
+pub const BIT_AND: u8 = 0x0f;
+pub const BIT_OR: u8 = 0x10;
+pub const BIT_XOR: u8 = 0x11;
+pub const BIT_NOT: u8 = 0x12;
+pub const EQUAL: u8 = 0x13;
+pub const LESS_SIGNED: u8 = 0x14;
+pub const LESS_UNSIGNED: u8 = 0x15;
 pub const EXT: u8 = 0x16;
+pub const REF8: u8 = 0x17;
+pub const REF16: u8 = 0x18;
+pub const REF32: u8 = 0x19;
+pub const REF64: u8 = 0x1a;
 pub const IF_GOTO: u8 = 0x20;
 pub const GOTO: u8 = 0x21;
 pub const CONST8: u8 = 0x22;
+pub const CONST16: u8 = 0x23;
+pub const CONST32: u8 = 0x24;
+pub const CONST64: u8 = 0x25;
+pub const REG: u8 = 0x26;
 pub const END: u8 = 0x27;
+pub const DUP: u8 = 0x28;
 pub const POP: u8 = 0x29;
+pub const ZERO_EXT: u8 = 0x2a;
+pub const SWAP: u8 = 0x2b;
 pub const GETV: u8 = 0x2c;
 pub const SETV: u8 = 0x2d;
 pub const TRACEV: u8 = 0x2e;
+pub const TRACENZ: u8 = 0x2f;
+pub const TRACE16: u8 = 0x30;
 pub const PICK: u8 = 0x32;
+pub const ROT: u8 = 0x33;
 
 /// "01, 1b–1f and 34 are known but unsupported."
 pub const UNSUPPORTED: [u8; 7] = [0x01, 0x1b, 0x1c, 0x1d, 0x1e, 0x1f, 0x34];
@@ -44,55 +78,60 @@ const fn row(opcode: u8, name: &'static str, numbers: [usize; 3]) -> Row {
 }
 
 pub static TABLE: [Row; 44] = [
-    row(0x02, "add", [0, 2, 1]),
-    row(0x03, "sub", [0, 2, 1]),
-    row(0x04, "mul", [0, 2, 1]),
-    row(0x05, "div_signed", [0, 2, 1]),
-    row(0x06, "div_unsigned", [0, 2, 1]),
-    row(0x07, "rem_signed", [0, 2, 1]),
-    row(0x08, "rem_unsigned", [0, 2, 1]),
-    row(0x09, "lsh", [0, 2, 1]),
-    row(0x0a, "rsh_signed", [0, 2, 1]),
-    row(0x0b, "rsh_unsigned", [0, 2, 1]),
-    row(0x0c, "trace", [0, 2, 0]),
-    row(0x0d, "trace_quick", [1, 1, 1]),
-    row(0x0e, "log_not", [0, 1, 1]),
-    row(0x0f, "bit_and", [0, 2, 1]),
-    row(0x10, "bit_or", [0, 2, 1]),
-    row(0x11, "bit_xor", [0, 2, 1]),
-    row(0x12, "bit_not", [0, 1, 1]),
-    row(0x13, "equal", [0, 2, 1]),
-    row(0x14, "less_signed", [0, 2, 1]),
-    row(0x15, "less_unsigned", [0, 2, 1]),
+    row(ADD, "add", [0, 2, 1]),
+    row(SUB, "sub", [0, 2, 1]),
+    row(MUL, "mul", [0, 2, 1]),
+    row(DIV_SIGNED, "div_signed", [0, 2, 1]),
+    row(DIV_UNSIGNED, "div_unsigned", [0, 2, 1]),
+    row(REM_SIGNED, "rem_signed", [0, 2, 1]),
+    row(REM_UNSIGNED, "rem_unsigned", [0, 2, 1]),
+    row(LSH, "lsh", [0, 2, 1]),
+    row(RSH_SIGNED, "rsh_signed", [0, 2, 1]),
+    row(RSH_UNSIGNED, "rsh_unsigned", [0, 2, 1]),
+    row(TRACE, "trace", [0, 2, 0]),
+    row(TRACE_QUICK, "trace_quick", [1, 1, 1]),
+    row(LOG_NOT, "log_not", [0, 1, 1]),
+    row(BIT_AND, "bit_and", [0, 2, 1]),
+    row(BIT_OR, "bit_or", [0, 2, 1]),
+    row(BIT_XOR, "bit_xor", [0, 2, 1]),
+    row(BIT_NOT, "bit_not", [0, 1, 1]),
+    row(EQUAL, "equal", [0, 2, 1]),
+    row(LESS_SIGNED, "less_signed", [0, 2, 1]),
+    row(LESS_UNSIGNED, "less_unsigned", [0, 2, 1]),
     row(EXT, "ext", [1, 1, 1]),
-    row(0x17, "ref8", [0, 1, 1]),
-    row(0x18, "ref16", [0, 1, 1]),
-    row(0x19, "ref32", [0, 1, 1]),
-    row(0x1a, "ref64", [0, 1, 1]),
+    row(REF8, "ref8", [0, 1, 1]),
+    row(REF16, "ref16", [0, 1, 1]),
+    row(REF32, "ref32", [0, 1, 1]),
+    row(REF64, "ref64", [0, 1, 1]),
     row(IF_GOTO, "if_goto", [2, 1, 0]),
     row(GOTO, "goto", [2, 0, 0]),
     row(CONST8, "const8", [1, 0, 1]),
-    row(0x23, "const16", [2, 0, 1]),
-    row(0x24, "const32", [4, 0, 1]),
-    row(0x25, "const64", [8, 0, 1]),
-    row(0x26, "reg", [2, 0, 1]),
+    row(CONST16, "const16", [2, 0, 1]),
+    row(CONST32, "const32", [4, 0, 1]),
+    row(CONST64, "const64", [8, 0, 1]),
+    row(REG, "reg", [2, 0, 1]),
     row(END, "end", [0, 0, 0]),
-    row(0x28, "dup", [0, 1, 2]),
+    row(DUP, "dup", [0, 1, 2]),
     row(POP, "pop", [0, 1, 0]),
-    row(0x2a, "zero_ext", [1, 1, 1]),
-    row(0x2b, "swap", [0, 2, 2]),
+    row(ZERO_EXT, "zero_ext", [1, 1, 1]),
+    row(SWAP, "swap", [0, 2, 2]),
     row(GETV, "getv", [2, 0, 1]),
     row(SETV, "setv", [2, 1, 1]),
     row(TRACEV, "tracev", [2, 0, 1]),
-    row(0x2f, "tracenz", [0, 2, 0]),
-    row(0x30, "trace16", [2, 1, 1]),
+    row(TRACENZ, "tracenz", [0, 2, 0]),
+    row(TRACE16, "trace16", [2, 1, 1]),
     row(PICK, "pick", [1, 1, 2]),
-    row(0x33, "rot", [0, 3, 3]),
+    row(ROT, "rot", [0, 3, 3]),
 ];
 
 impl Row {
     pub fn is_jump(&self) -> bool {
         self.opcode == IF_GOTO || self.opcode == GOTO
+    }
+
+    /// One of the table's first line, "0,2,1": it leaves one cell for two.
+    pub fn is_binary(&self) -> bool {
+        (self.operands, self.needs, self.leaves) == (0, 2, 1)
     }
 }
 
@@ -129,6 +168,14 @@ pub fn instruction(bytes: &[u8], offset: usize, row: &'static Row) -> Option<Ins
         row,
         operand,
     })
+}
+
+/// The instruction at a start of an expression for which pass 1 holds.
+pub fn at_start(bytes: &[u8], offset: usize) -> Instruction {
+    match opcode(bytes[offset]) {
+        Opcode::Supported(row) => instruction(bytes, offset, row).expect("operands are there"),
+        _ => panic!("not an instruction start"),
+    }
 }
 
 impl Instruction {

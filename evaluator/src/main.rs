@@ -2,17 +2,24 @@
 //! shares nothing with the proved verifier and writes test vectors for it.
 
 mod counts;
+mod frames;
 mod generate;
 mod hex;
 mod isa;
+mod leaf;
+mod machine;
+mod memory;
 mod random;
+mod runs;
 mod vectors;
 mod verify;
 mod walks;
+mod words;
 
 use std::io::Write;
 use std::path::Path;
 use std::process::ExitCode;
+use vectors::Vectors;
 
 const HELP: &str = "\
 evaluator: evaluates agent expressions as document 01 says
@@ -21,12 +28,18 @@ evaluator: evaluates agent expressions as document 01 says
                                  expression: `accepted COUNT HEIGHT WALK` or
                                  `refused NUMBER OFFSET`; HEX may have spaces
                                  between bytes, \"\" is the empty expression
-  evaluator vectors DIR          writes DIR/verifier_vectors/stdin and stdout;
-                                 the folder must exist; DIR is normally crates
+  evaluator run LINE             prints what a run comes to; LINE is one line
+                                 of DIR/run_vectors/stdin, as one argument
+  evaluator vectors DIR          writes stdin and stdout in the folders
+                                 DIR/verifier_vectors, DIR/leaf_vectors and
+                                 DIR/run_vectors, which must exist; DIR is
+                                 normally crates
   evaluator vectors --check DIR  writes nothing; tells which file and line is
                                  not as it would be written
-  evaluator counts               tells how many vectors have each outcome, and
-                                 how many accepted ones reach each opcode
+  evaluator counts               tells how many vectors have each outcome, how
+                                 many accepted expressions reach each opcode,
+                                 how many words each operator is tried on, and
+                                 how many completed runs execute each opcode
   evaluator help                 prints this text
 
 Exit status: 0 done, 1 files differ or cannot be written, 2 misuse.
@@ -65,6 +78,8 @@ fn run() -> Result<(), Failure> {
         ["help" | "--help" | "-h"] => print(HELP),
         ["verify", first, ref others @ ..] => run_verify(first, others),
         ["verify"] => misuse("verify needs HEX"),
+        ["run", line] => run_one(line),
+        ["run", ..] => misuse("run needs LINE as one argument, and nothing else"),
         ["vectors", "--check"] => misuse("vectors --check needs DIR"),
         ["vectors", "--check", dir] => run_check(Path::new(dir)),
         ["vectors", option] if option.starts_with('-') => {
@@ -72,7 +87,7 @@ fn run() -> Result<(), Failure> {
         }
         ["vectors", dir] => run_vectors(Path::new(dir)),
         ["vectors", ..] => misuse("vectors needs DIR, or --check DIR, and nothing else"),
-        ["counts"] => print(&counts::counts().table()),
+        ["counts"] => print(&counts::tables()),
         ["counts", ..] => misuse("counts takes no arguments"),
         [] => misuse("a command is needed"),
         [command, ..] => misuse(&format!("there is no command `{command}`")),
@@ -95,15 +110,27 @@ fn run_verify(first: &str, others: &[&str]) -> Result<(), Failure> {
     print(&(verify::line(&verify::verify(&bytes)) + "\n"))
 }
 
-fn run_vectors(dir: &Path) -> Result<(), Failure> {
+fn run_one(line: &str) -> Result<(), Failure> {
+    let case = runs::Case::read(line).map_err(Failure::Misuse)?;
+    let outcome = machine::run(&case.given());
+    print(&(runs::line(&outcome, case.used) + "\n"))
+}
+
+/// Every kind of vectors, if each has its folder in `dir`.
+fn with_folders(dir: &Path) -> Result<Vec<Vectors>, Failure> {
     let all = vectors::all();
     for vectors in &all {
         let folder = dir.join(vectors.folder);
         if !folder.is_dir() {
-            return misuse(&format!("the folder {} does not exist", folder.display()));
+            let text = format!("the folder {} does not exist", folder.display());
+            return Err(Failure::Misuse(text));
         }
     }
-    for vectors in &all {
+    Ok(all)
+}
+
+fn run_vectors(dir: &Path) -> Result<(), Failure> {
+    for vectors in with_folders(dir)? {
         vectors.write(dir).map_err(Failure::Failed)?;
         eprintln!("{}", vectors.note);
     }
@@ -111,11 +138,8 @@ fn run_vectors(dir: &Path) -> Result<(), Failure> {
 }
 
 fn run_check(dir: &Path) -> Result<(), Failure> {
-    if !dir.is_dir() {
-        return misuse(&format!("the folder {} does not exist", dir.display()));
-    }
     let mut differences = Vec::new();
-    for vectors in vectors::all() {
+    for vectors in with_folders(dir)? {
         differences.extend(vectors.differences(dir));
         eprintln!("{}", vectors.note);
     }

@@ -1,7 +1,7 @@
 //! The files of test vectors: one function for each kind. A kind is a folder
 //! with a file `stdin`, a case in each line, and a file `stdout`, its outcome.
 
-use crate::{generate, hex, verify, walks};
+use crate::{frames, generate, hex, leaf, machine, runs, verify, walks};
 use std::fs;
 use std::path::{Path, PathBuf};
 
@@ -15,7 +15,7 @@ pub struct Vectors {
 
 /// Every kind.
 pub fn all() -> Vec<Vectors> {
-    vec![verifier()]
+    vec![verifier(), leaf(), runs()]
 }
 
 /// Expressions and what the verifier answers. Where an expression has few
@@ -52,6 +52,62 @@ pub fn verifier() -> Vectors {
         walks::MOST_WALKS,
     );
     vectors
+}
+
+/// Single operators, fetches, searches and records, and what they come to. What
+/// is written must read back as what it was. Divisions stay out: no program
+/// reads frames yet.
+pub fn leaf() -> Vectors {
+    let mut vectors = Vectors {
+        folder: "leaf_vectors",
+        stdin: String::new(),
+        stdout: String::new(),
+        note: String::new(),
+    };
+    let mut cases = generate::leaf_cases();
+    cases.retain(|case| !matches!(case, leaf::Case::Divide { .. }));
+    for case in &cases {
+        let outcome = case.evaluate();
+        let line = case.line();
+        assert!(leaf::reads_back(case, &outcome), "not read back: {line}");
+        vectors.stdin += &(line + "\n");
+        vectors.stdout += &(leaf::line(&outcome) + "\n");
+    }
+    vectors.note = format!("leaf_vectors: {} cases", cases.len());
+    vectors
+}
+
+/// Expressions and all that their runs are given, and what they come to. What
+/// was written must divide into the records made.
+pub fn runs() -> Vectors {
+    let mut vectors = Vectors {
+        folder: "run_vectors",
+        stdin: String::new(),
+        stdout: String::new(),
+        note: String::new(),
+    };
+    let cases = generate::run_cases();
+    for case in &cases {
+        let outcome = machine::run(&case.given());
+        let line = case.line();
+        assert!(divides(&outcome, case.used), "not divided: {line}");
+        vectors.stdin += &(line + "\n");
+        vectors.stdout += &(runs::line(&outcome, case.used) + "\n");
+    }
+    vectors.note = format!("run_vectors: {} cases", cases.len());
+    vectors
+}
+
+/// The buffer holds the records from the given used length on.
+fn divides(outcome: &machine::Outcome, used: u64) -> bool {
+    let lengths = outcome.records.iter().map(|r| frames::encode(r).len());
+    let length: usize = lengths.sum();
+    if length == 0 {
+        return outcome.records.is_empty();
+    }
+    let used = used as usize;
+    let divided = frames::divide(&outcome.buffer[used..used + length]);
+    divided.as_ref() == Ok(&outcome.records)
 }
 
 impl Vectors {
@@ -125,21 +181,28 @@ mod tests {
 
     #[test]
     fn two_runs_are_equal() {
-        let (one, other) = (verifier(), verifier());
-        assert!(one.stdin == other.stdin && one.stdout == other.stdout);
+        let both = [(verifier(), verifier()), (leaf(), leaf()), (runs(), runs())];
+        for (one, other) in both {
+            assert!(one.stdin == other.stdin && one.stdout == other.stdout);
+        }
     }
 
     #[test]
     fn sizes_are_as_asked() {
-        let vectors = verifier();
-        let lines = vectors.stdin.lines().count();
-        assert!((6_000..=8_000).contains(&lines), "{lines} lines");
-        assert_eq!(lines, vectors.stdout.lines().count());
-        assert!(vectors.stdin.len() + vectors.stdout.len() < 1_500_000);
-        let mut cases: Vec<&str> = vectors.stdin.lines().collect();
-        cases.sort();
-        cases.dedup();
-        assert_eq!(cases.len(), lines, "a line is repeated");
+        for (vectors, most_lines, most_bytes) in [
+            (verifier(), 6_000..=8_000, 1_500_000),
+            (leaf(), 4_000..=6_000, 1_000_000),
+            (runs(), 4_000..=6_000, 1_500_000),
+        ] {
+            let lines = vectors.stdin.lines().count();
+            assert!(most_lines.contains(&lines), "{lines} lines");
+            assert_eq!(lines, vectors.stdout.lines().count());
+            assert!(vectors.stdin.len() + vectors.stdout.len() < most_bytes);
+            let mut cases: Vec<&str> = vectors.stdin.lines().collect();
+            cases.sort();
+            cases.dedup();
+            assert_eq!(cases.len(), lines, "a line is repeated");
+        }
     }
 
     #[test]

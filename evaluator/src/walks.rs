@@ -2,7 +2,7 @@
 //! walks ("Verifying") and not from pass 3: every walk is made, and the
 //! conditions are looked up in all of them.
 
-use crate::isa::{self, Instruction, Opcode};
+use crate::isa::{self, Opcode};
 use crate::verify::{Accepted, Outcome, Refused};
 use std::collections::{BTreeMap, BTreeSet};
 
@@ -67,7 +67,7 @@ fn byte_fault(bytes: &[u8], at: usize) -> Option<Refused> {
 
 /// Refusal 6 or 7, if it fits a jump at the offset.
 fn jump_fault(bytes: &[u8], starts: &[usize], at: usize) -> Option<Refused> {
-    let jump = read(bytes, at);
+    let jump = isa::at_start(bytes, at);
     let number = match jump.target() {
         _ if !jump.row.is_jump() => return None,
         target if !starts.contains(&target) => 6,
@@ -77,14 +77,6 @@ fn jump_fault(bytes: &[u8], starts: &[usize], at: usize) -> Option<Refused> {
     Some(Refused { number, offset: at })
 }
 
-/// The instruction at a start of an expression for which pass 1 holds.
-fn read(bytes: &[u8], at: usize) -> Instruction {
-    match isa::opcode(bytes[at]) {
-        Opcode::Supported(row) => isa::instruction(bytes, at, row).expect("operands are there"),
-        _ => panic!("not an instruction start"),
-    }
-}
-
 /// All walks that cannot be made longer; None if there are too many. Jumps are
 /// forward here, so each walk comes to its last start.
 fn walks(bytes: &[u8]) -> Option<Vec<Walk>> {
@@ -92,7 +84,7 @@ fn walks(bytes: &[u8]) -> Option<Vec<Walk>> {
     let mut finished = Vec::new();
     while let Some(mut starts) = unfinished.pop() {
         let leaves = loop {
-            let here = read(bytes, starts[starts.len() - 1]);
+            let here = isa::at_start(bytes, starts[starts.len() - 1]);
             let next = match here.row.name {
                 "end" => break false,
                 "goto" => here.target(),
@@ -150,7 +142,7 @@ fn look(bytes: &[u8], walks: &[Walk]) -> BTreeMap<usize, Seen> {
     for walk in walks {
         let mut height = 0;
         for (place, start) in walk.starts.iter().enumerate() {
-            let (needs, leaves) = read(bytes, *start).cells();
+            let (needs, leaves) = isa::at_start(bytes, *start).cells();
             let seen = all.entry(*start).or_default();
             seen.arriving.insert(height);
             height = height - needs as i64 + leaves as i64;

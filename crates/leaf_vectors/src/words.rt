@@ -1,0 +1,82 @@
+// The operators on words, by opcode.
+ghost use Prim.Native.Nat.{_<_};
+ghost use Rattle.io.specs.Counts.{Counts};
+use crate::text::append_broken;
+use crate::text::append_number;
+use crate::text::append_refused;
+
+pub enum Outcome {
+    Result(u64),
+    DividedByZero,
+    Unknown,
+}
+
+fn quotient(opcode: u64, a: u64, b: u64) -> u64
+    requires { ⌜ 0 < b ⌝ }
+{
+    match opcode {
+        0x05 => arithmetic::div_signed(a, b),
+        0x06 => arithmetic::div_unsigned(a, b),
+        0x07 => arithmetic::rem_signed(a, b),
+        _ => arithmetic::rem_unsigned(a, b),
+    }
+}
+
+fn divided(opcode: u64, a: u64, b: u64) -> Outcome {
+    if b == 0 {
+        return Outcome::DividedByZero;
+    }
+    Outcome::Result(quotient(opcode, a, b))
+}
+
+fn extended(a: u64, n: u64) -> Outcome {
+    if n == 0 {
+        return Outcome::Unknown;
+    }
+    Outcome::Result(arithmetic::ext(a, n))
+}
+
+fn bits(opcode: u64, a: u64, b: u64) -> Outcome {
+    match opcode {
+        0x0f => Outcome::Result(arithmetic::bit_and(a, b)),
+        0x10 => Outcome::Result(arithmetic::bit_or(a, b)),
+        0x11 => Outcome::Result(arithmetic::bit_xor(a, b)),
+        0x12 => Outcome::Result(arithmetic::bit_not(a)),
+        0x16 => extended(a, b),
+        0x2a => Outcome::Result(arithmetic::zero_ext(a, b)),
+        _ => Outcome::Unknown,
+    }
+}
+
+fn compared(opcode: u64, a: u64, b: u64) -> Outcome {
+    match opcode {
+        0x0e => Outcome::Result(arithmetic::log_not(a)),
+        0x13 => Outcome::Result(arithmetic::equal(a, b)),
+        0x14 => Outcome::Result(arithmetic::less_signed(a, b)),
+        0x15 => Outcome::Result(arithmetic::less_unsigned(a, b)),
+        _ => bits(opcode, a, b),
+    }
+}
+
+fn computed(opcode: u64, a: u64, b: u64) -> Outcome {
+    match opcode {
+        0x02 => Outcome::Result(arithmetic::add(a, b)),
+        0x03 => Outcome::Result(arithmetic::sub(a, b)),
+        0x04 => Outcome::Result(arithmetic::mul(a, b)),
+        0x05..=0x08 => divided(opcode, a, b),
+        0x09 => Outcome::Result(arithmetic::lsh(a, b)),
+        0x0a => Outcome::Result(arithmetic::rsh_signed(a, b)),
+        0x0b => Outcome::Result(arithmetic::rsh_unsigned(a, b)),
+        _ => compared(opcode, a, b),
+    }
+}
+
+pub fn append_word(out: &mut [u8], opcode: u64, a: u64, b: u64) -> usize
+    ensures { λ r. ⌜ Counts r (now (out .exit)) ⌝ }
+{
+    match computed(opcode, a, b) {
+        Outcome::Result(word) => append_number(out, 0, word),
+        Outcome::DividedByZero => append_refused(out, 17),
+        Outcome::Unknown => append_broken(out),
+    }
+}
