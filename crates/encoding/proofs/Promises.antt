@@ -9,8 +9,10 @@ use lib.ListN.{length, take, drop, set, getD}
 use lib.Dec.{T, leb, ltb, leb→le, ltb→lt}
 use borrow.Author.Tests.{not-true, not-false}
 use Rattle.encoding.specs.Tried.{tried, numbered, NoneHolds, Decides}
+use Rattle.encoding.specs.BigEndian.{bigEndian}
 use Rattle.encoding.specs.LittleEndian.{littleEndian, littleBytes}
 use Rattle.encoding.specs.Written.{writtenAt}
+use Rattle.encoding.proofs.Reading as reading
 use Rattle.encoding.proofs.LittleNumbers as little
 use Rattle.encoding.proofs.Writing as writing
 
@@ -79,6 +81,10 @@ little-below = little.little-below
 
 pub bytes-of-little : (bs : List ℕ) → ((i : ℕ) → getD bs i 0 < 256) → littleBytes (length bs) (littleEndian bs) ≡ bs
 bytes-of-little = little.bytes-of-little
+
+-- ---- and most significant byte first, likewise
+pub big-below : (e : List ℕ) (i n : ℕ) → ((j : ℕ) → getD e j 0 < 256) → bigEndian e i n < 256 ^ n
+big-below = reading.big-below
 
 -- ---- a list with bytes written into it
 module _ (l : List ℕ) (a : ℕ) where

@@ -1,8 +1,8 @@
 -- The loop of `big_endian`: so many bytes are read, over every byte count.
 use mathlib.Core.Path.{_≡_, refl}
 use mathlib.Core.List.{List}
-use Prim.Native.Nat.{ℕ, _<_, _≤_, _+_, _*_, _^_}
-use native.Mathlib.Nat.{pow-suc, pow-le-pow-right}
+use Prim.Native.Nat.{ℕ, zero, suc, _<_, _≤_, _+_, _*_, _^_}
+use native.Mathlib.Nat.{pow-zero, pow-suc, pow-le-pow-right}
 use native.Mathlib.Numerals.{add-one}
 use native.Mathlib.Omega.{arith}
 use lib.ListN.{getD}
@@ -37,3 +37,9 @@ module _ {e : List ℕ} {i n v k : ℕ} (r : Reading e i n v k) where
 
   pub reading-end : n ≤ k → (v ≡ bigEndian e i n) × (v < 256 ^ n)
   reading-end g = let q : k ≡ n = omega (arith, r .within) in (rw q at (r .same), rw q at (r .low))
+
+-- of bytes, each below 256, the number fits them
+pub big-below : (e : List ℕ) (i n : ℕ) → ((j : ℕ) → getD e j 0 < 256) → bigEndian e i n < 256 ^ n
+unfolding bigEndian
+big-below e i zero h = rw pow-zero (omega arith)
+big-below e i (suc n) h = rw pow-suc (omega (arith, h (i + n), big-below e i n h))

@@ -17,7 +17,7 @@ unfolding encode littleBytes
 size-encode (memory address bytes) = omega arith
 size-encode (variable number value) = refl
 
-has-all : (n : ℕ) (l : List ℕ) → n ≤ length l → has n l ≡ true
+pub has-all : (n : ℕ) (l : List ℕ) → n ≤ length l → has n l ≡ true
 has-all n l h = le-leb n (length (take n l)) (omega (arith, length-take-le n l h))
 
 has-enough : (n : ℕ) (l : List ℕ) → T (has n l) → n ≤ length l
@@ -55,23 +55,23 @@ pub record FoundVariable (l : List ℕ) : Type 0 where
   pub fits : 13 ≤ length l
 
 module _ (l : List ℕ) where
-  memory-facts : T (eqb (getD l 0 0) 0x4d) → T (has 11 l && leb 1 (field l 9 2) && has (field l 9 2) (drop 11 l)) → FoundMemory l (field l 9 2)
-  memory-facts m t =
+  -- what the tests say
+  pub memory-fits : T (has 11 l && leb 1 (field l 9 2) && has (field l 9 2) (drop 11 l)) → (1 ≤ field l 9 2) × (11 + field l 9 2 ≤ length l)
+  memory-fits t =
       let t₁ = and-left (has 11 l && leb 1 (field l 9 2)) (has (field l 9 2) (drop 11 l)) t in
       let head = has-enough 11 l (and-left (has 11 l) (leb 1 (field l 9 2)) t₁) in
       let tail = has-enough (field l 9 2) (drop 11 l) (and-right (has 11 l && leb 1 (field l 9 2)) (has (field l 9 2) (drop 11 l)) t) in
-      record {
-        mark = eqb→eq (getD l 0 0) 0x4d m;
-        some = leb→le 1 (field l 9 2) (and-right (has 11 l) (leb 1 (field l 9 2)) t₁);
-        fits = omega (arith, length-drop 11 l);
-      }
+      (leb→le 1 (field l 9 2) (and-right (has 11 l) (leb 1 (field l 9 2)) t₁), omega (arith, length-drop 11 l))
+
+  pub variable-fits : T (has 13 l && ltb (field l 1 4) 64) → (field l 1 4 < 64) × (13 ≤ length l)
+  variable-fits t =
+      (ltb→lt (field l 1 4) 64 (and-right (has 13 l) (ltb (field l 1 4) 64) t), has-enough 13 l (and-left (has 13 l) (ltb (field l 1 4) 64) t))
+
+  memory-facts : T (eqb (getD l 0 0) 0x4d) → T (has 11 l && leb 1 (field l 9 2) && has (field l 9 2) (drop 11 l)) → FoundMemory l (field l 9 2)
+  memory-facts m t = record { mark = eqb→eq (getD l 0 0) 0x4d m; some = memory-fits t .0; fits = memory-fits t .1 }
 
   variable-facts : T (eqb (getD l 0 0) 0x56) → T (has 13 l && ltb (field l 1 4) 64) → FoundVariable l
-  variable-facts m t = record {
-    mark = eqb→eq (getD l 0 0) 0x56 m;
-    low = ltb→lt (field l 1 4) 64 (and-right (has 13 l) (ltb (field l 1 4) 64) t);
-    fits = has-enough 13 l (and-left (has 13 l) (ltb (field l 1 4) 64) t);
-  }
+  variable-facts m t = record { mark = eqb→eq (getD l 0 0) 0x56 m; low = variable-fits t .0; fits = variable-fits t .1 }
 
   -- a property of what is decoded, from the three ways to it
   by-decode : (P : Decoded → Type 0)
@@ -87,8 +87,8 @@ module _ (l : List ℕ) where
       (λ m. chosen P (has 13 l && ltb (field l 1 4) 64) (λ t. g (variable-facts m t)) b)
       b)
 
-  taken : FoundMemory l (field l 9 2) → length (take (field l 9 2) (drop 11 l)) ≡ field l 9 2
-  taken m = length-take-le (field l 9 2) (drop 11 l) (omega (arith, m .fits, length-drop 11 l))
+  pub taken : 11 + field l 9 2 ≤ length l → length (take (field l 9 2) (drop 11 l)) ≡ field l 9 2
+  taken h = length-take-le (field l 9 2) (drop 11 l) (omega (arith, length-drop 11 l))
 
 -- a record that is found has at least one byte, and all its bytes are there
 abbrev pub InFront : List ℕ → Decoded → Type 0
@@ -96,7 +96,7 @@ InFront l (found r) = (1 ≤ size r) × (size r ≤ length l)
 InFront l broken = Unit {0}
 
 pub in-front : (l : List ℕ) → InFront l (decode l)
-in-front l = by-decode l (InFront l) (λ m. (omega arith, omega (arith, taken l m, m .fits))) (λ v. (omega arith, v .fits)) tt
+in-front l = by-decode l (InFront l) (λ m. (omega arith, omega (arith, taken l (m .fits), m .fits))) (λ v. (omega arith, v .fits)) tt
 
 pub found-fits : (l : List ℕ) {r : Record} → decode l ≡ found r → (1 ≤ size r) × (size r ≤ length l)
 found-fits l e = rw e at (in-front l)
@@ -137,7 +137,7 @@ module _ (l : List ℕ) (bytes : (i : ℕ) → getD l i 0 < 256) where
   memory-again m =
       let n = field l 9 2 in
       let body = take n (drop 11 l) in
-      let long : length body ≡ n = taken l m in
+      let long : length body ≡ n = taken l (m .fits) in
       let whole : l ≡ 0x4d ∷ (take 8 (drop 1 l) ++ (take 2 (drop 9 l) ++ (body ++ drop (11 + n) l))) =
       mark-first l 0x4d (omega (arith, m .fits)) (m .mark)
       ∙ ap (λ t. 0x4d ∷ t) (piece l 1 8 ∙ ap (λ t. take 8 (drop 1 l) ++ t) (piece l 9 2 ∙ ap (λ t. take 2 (drop 9 l) ++ t) (piece l 11 n))) in (

@@ -4,8 +4,9 @@ use mathlib.Core.Path.{_≡_, refl, ap, sym, _∙_}
 use Prim.Native.Nat.{ℕ, zero, suc, _+_, _≤_, _<_}
 use native.Mathlib.Nat.{add-assoc, zero-add, not-suc-le-zero}
 use native.Mathlib.Omega.{arith}
-use lib.ListN.{length, getD, drop, length-append, length-drop}
+use lib.ListN.{length, getD, drop, length-append, length-drop, drop-of-length-le}
 use lib.Seq.{drop-at, getD-drop}
+use Rattle.encoding.proofs.Promises.{cases}
 use Rattle.frames.specs.Record.{Record, encode, encodeAll, size, AllWellFormed, Decoded, found, broken, decode}
 use Rattle.frames.specs.Division.{Division, records, brokenAt, after, afterAll, onward, divideAtMost, divide}
 use Rattle.frames.proofs.Decoding.{size-encode, decode-encode, InFront, in-front, found-fits, encode-decode}
@@ -113,3 +114,56 @@ encoded-by (suc n) (b ∷ l) h bytes rs e =
 pub divided-encoded : (l : List ℕ) → ((i : ℕ) → getD l i 0 < 256) → (rs : List Record) → divide l ≡ records rs → AllWellFormed rs × (l ≡ encodeAll rs)
 unfolding divide
 divided-encoded l bytes rs e = encoded-by (length l) l (omega arith) bytes rs e
+
+-- ---- the first record of bytes that divide
+module _ (l : List ℕ) (r : Record) (ts : List Record) (e : divide l ≡ records (r ∷ ts)) where
+  abbrev First : Type 0
+  First = (decode l ≡ found r) × (divide (drop (size r) l) ≡ records ts)
+
+  first-by : (d : Decoded) → decode l ≡ d → 0 < length l → First
+  first-by (found q) h s =
+      split q (divide (drop (size q) l)) (r ∷ ts) (sym (divide-found l h) ∙ e) λ us p k.
+      let same : r ≡ q = cc in
+      let rest : ts ≡ us = cc in
+      rw (same, rest) (h, p)
+  first-by broken h s = let b = sym (divide-broken l s h) ∙ e in absurd (let z : _≡_ {A = ℕ} 0 1 = cc in omega arith)
+
+  pub divided-some : 0 < length l
+  divided-some =
+      cases 0 (length l) (λ h. h) λ h.
+      let n : l ≡ [] = drop-of-length-le l {i = 0} h in
+      let b = sym (ap divide n ∙ divide-nothing) ∙ e in
+      absurd (let z : _≡_ {A = ℕ} 0 1 = cc in omega arith)
+
+  pub divided-first : First
+  divided-first = first-by (decode l) refl divided-some
+
+-- ---- a broken record lies within the bytes
+Within : ℕ → Division → Type 0
+Within n (records rs) = Unit {0}
+Within n (brokenAt i) = i < n
+
+after-within : (r : Record) (d : Division) (m n : ℕ) → size r + m ≤ n → Within m d → Within n (after r d)
+unfolding Within
+after-within r (records rs) m n h w = tt
+after-within r (brokenAt i) m n h w = omega (arith, w)
+
+onward-within : (f : List ℕ → Division) (l : List ℕ) (d : Decoded) → 0 < length l → InFront l d
+    → ((i : ℕ) → 1 ≤ i → i ≤ length l → Within (length (drop i l)) (f (drop i l))) → Within (length l) (onward f l d)
+unfolding Within
+onward-within f l (found r) s h g =
+    after-within r (f (drop (size r) l)) (length (drop (size r) l)) (length l) (omega (arith, h, length-drop (size r) l)) (g (size r) (h .0) (h .1))
+onward-within f l broken s h g = s
+
+within-by : (n : ℕ) (l : List ℕ) → length l ≤ n → Within (length l) (divideAtMost n l)
+unfolding Within divideAtMost
+within-by zero [] h = tt
+within-by zero (b ∷ l) h = absurd (not-suc-le-zero h)
+within-by (suc n) [] h = tt
+within-by (suc n) (b ∷ l) h =
+    onward-within (λ t. divideAtMost n t) (b ∷ l) (decode (b ∷ l)) (omega arith) (in-front (b ∷ l))
+    (λ i p q. within-by n (drop i (b ∷ l)) (omega (arith, length-drop i (b ∷ l))))
+
+pub broken-inside : (l : List ℕ) {i : ℕ} → divide l ≡ brokenAt i → i < length l
+unfolding Within divide
+broken-inside l e = rw e at (within-by (length l) l (omega arith))

@@ -3,4 +3,5 @@ pub mod Decoding
 pub mod Dividing
 pub mod Closing
 pub mod Fitting
+pub mod Reading
 pub mod Promises

@@ -6,10 +6,11 @@ use Prim.Native.Nat.{ℕ, _+_, _-_, _^_, _≤_, _<_}
 use lib.ListN.{length, getD, take, drop}
 use Rattle.encoding.specs.LittleEndian.{littleEndian, littleBytes}
 use Rattle.encoding.specs.Written.{writtenAt}
-use Rattle.frames.specs.Record.{Record, encode, encodeAll, size, WellFormed, AllWellFormed, found, broken, decodeMemory, decodeVariable, decode}
+use Rattle.frames.specs.Record.{Record, encode, encodeAll, size, WellFormed, AllWellFormed, Decoded, found, broken, decodeMemory, decodeVariable, decode}
 use Rattle.frames.specs.Division.{Division, records, brokenAt, after, afterAll, divideAtMost, divide}
 use Rattle.frames.specs.Trailer.{trailerSize, encodeTrailer, trailer, decodeTrailer}
 use Rattle.frames.specs.Frame.{encodeFrame}
+use Rattle.frames.specs.Reading.{itemOf, itemSize}
 use Rattle.frames.specs.Writing.{written, encodable, Leaves, Whole}
 use Rattle.frames.specs.Example.{exampleFrame, exampleRecords}
 use Rattle.frames.specs.declared.Written.{Written}
@@ -18,6 +19,7 @@ use Rattle.frames.proofs.Decoding as decoding
 use Rattle.frames.proofs.Dividing as dividing
 use Rattle.frames.proofs.Closing as closing
 use Rattle.frames.proofs.Fitting as fitting
+use Rattle.frames.proofs.Reading as reading
 
 -- ---- a record and its bytes
 -- 11 + the number of bytes, or 13
@@ -70,6 +72,18 @@ module _ (rs : List Record) where
 pub divided-encoded : (l : List ℕ) → ((i : ℕ) → getD l i 0 < 256) → (rs : List Record) → divide l ≡ records rs → AllWellFormed rs × (l ≡ encodeAll rs)
 divided-encoded = dividing.divided-encoded
 
+-- the first record of bytes that divide, and the rest
+module _ (l : List ℕ) (r : Record) (ts : List Record) (e : divide l ≡ records (r ∷ ts)) where
+  pub divided-some : 0 < length l
+  divided-some = dividing.divided-some l r ts e
+
+  pub divided-first : (decode l ≡ found r) × (divide (drop (size r) l) ≡ records ts)
+  divided-first = dividing.divided-first l r ts e
+
+-- a broken record lies within the bytes
+pub broken-inside : (l : List ℕ) {i : ℕ} → divide l ≡ brokenAt i → i < length l
+broken-inside = dividing.broken-inside
+
 -- ---- the trailer: its length, and both ways between its numbers and its bytes
 pub trailer-length : (t n : ℕ) → length (encodeTrailer t n) ≡ trailerSize
 trailer-length = closing.trailer-length
@@ -106,6 +120,11 @@ module _ (l : List ℕ) (u : ℕ) (rs : List Record) where
   pub trailer-behind : (t : ℕ)
       → writtenAt (writtenAt l u (encodeAll rs)) (u + length (encodeAll rs)) (encodeTrailer t (length (encodeAll rs))) ≡ writtenAt l u (encodeFrame t rs)
   trailer-behind = fitting.trailer-behind l u rs
+
+-- ---- the readers' answers
+-- a record is found, and the item has its size; or none is, and the size is 0
+pub by-item : {X : Type 0} (d : Decoded) → (d ≡ broken → itemSize (itemOf d) ≡ 0 → X) → ((r : Record) → d ≡ found r → itemSize (itemOf d) ≡ size r → X) → X
+by-item = reading.by-item
 
 -- ---- document 01's frame, written and read
 pub example-written : encodeFrame 7 exampleRecords ≡ exampleFrame

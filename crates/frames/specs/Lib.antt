@@ -4,4 +4,5 @@ pub mod Division
 pub mod Trailer
 pub mod Frame
 pub mod Writing
+pub mod Reading
 pub mod Example

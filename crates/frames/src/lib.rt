@@ -1,8 +1,10 @@
 // Frames: what a run records, and how it is written into the trace buffer.
 pub mod trailer;
 
-ghost use Rattle.frames.specs.Record.{memory, variable};
+ghost use mathlib.Core.Path.{_≡_};
+ghost use Rattle.frames.specs.Record.{memory, variable, decodeMemory, decodeVariable, decode};
 ghost use Rattle.frames.specs.Writing.{writtenRecord, Leaves};
+ghost use Rattle.frames.specs.Reading.{itemOf, itemSize};
 
 // How many bytes a writer has written; or none, for want of room.
 pub enum Written {
@@ -57,4 +59,78 @@ pub fn append_variable(buffer: &mut [u8], used: usize, number: u32, value: u64) 
         return Written::Full;
     }
     write_variable(&mut buffer[used..], number, value)
+}
+
+// The record at the front of some bytes. Memory: address, length. Variable: number, value.
+pub enum Item {
+    Memory(u64, usize),
+    Variable(u64, u64),
+    NoRecord,
+}
+
+// The trailer at the end of a frame: tracepoint number, length of the records.
+pub enum Ending {
+    Closes(u16, usize),
+    NoTrailer,
+}
+
+// The bytes of a memory record before those recorded.
+pub const MEMORY_HEADER: usize = 11;
+
+fn read_memory(bytes: &[u8]) -> Item
+    ensures { λ r. ⌜ r ≡ itemOf (decodeMemory (now (bytes .entry))) ⌝ }
+{
+    if bytes.len() < 11 {
+        return Item::NoRecord;
+    }
+    let count = encoding::little_endian(&bytes[9..11]) as usize;
+    if count == 0 {
+        return Item::NoRecord;
+    }
+    if bytes.len() - 11 < count {
+        return Item::NoRecord;
+    }
+    let address = encoding::little_endian(&bytes[1..9]);
+    Item::Memory(address, count)
+}
+
+fn read_variable(bytes: &[u8]) -> Item
+    ensures { λ r. ⌜ r ≡ itemOf (decodeVariable (now (bytes .entry))) ⌝ }
+{
+    if bytes.len() < 13 {
+        return Item::NoRecord;
+    }
+    let number = encoding::little_endian(&bytes[1..5]);
+    if number >= 64 {
+        return Item::NoRecord;
+    }
+    let value = encoding::little_endian(&bytes[5..13]);
+    Item::Variable(number, value)
+}
+
+pub fn read_record(bytes: &[u8]) -> Item
+    ensures { λ r. ⌜ r ≡ itemOf (decode (now (bytes .entry))) ⌝ }
+{
+    if bytes.len() == 0 {
+        return Item::NoRecord;
+    }
+    let mark = bytes[0];
+    if mark == 0x4d {
+        return read_memory(bytes);
+    }
+    if mark == 0x56 {
+        return read_variable(bytes);
+    }
+    Item::NoRecord
+}
+
+// The number of bytes of the record at the front; 0 where there is none.
+pub fn record_size(bytes: &[u8]) -> usize
+    ensures { λ r. ⌜ r ≡ itemSize (itemOf (decode (now (bytes .entry)))) ⌝ }
+{
+    match read_record(bytes) {
+        Item::Memory(address, length) => 11 + length,
+        Item::Variable(number, value) => 13,
+        Item::NoRecord => 0,
+    }
 }

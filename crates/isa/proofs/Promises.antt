@@ -7,7 +7,7 @@ use mathlib.Core.Logic.{_⊎_}
 use Prim.Native.Nat.{ℕ, _+_, _-_, _≤_, _<_}
 use lib.ListN.{length, getD, drop}
 use lib.Dec.{eqb}
-use Rattle.isa.specs.Classes.{Class, classOf, row, kind, member, kind-unknown, kind-unsupported, kind-ext, kind-variable, kind-pick, kind-goto, kind-if-goto}
+use Rattle.isa.specs.Classes.{Class, ref, classOf, row, kind, member, kind-unknown, kind-unsupported, kind-ext, kind-variable, kind-pick, kind-goto, kind-if-goto}
 use Rattle.isa.specs.Decode.{classAt, kindAt, operandBytes, next, operand, picked, needed, left, heightAfter}
 use Rattle.isa.specs.Starts.{startsFrom, isStart}
 use Rattle.isa.specs.Held.{held}
@@ -33,6 +33,13 @@ jump-operands = table.jump-operands
 
 pub known-low : (op : ℕ) → kind-unknown < kind (classOf op) → op < 53
 known-low = table.known-low
+
+-- at most 8 bytes are an operand, and at most 8 are read by a ref
+pub operands-most : (op : ℕ) → getD (row (classOf op)) 0 0 ≤ 8
+operands-most = table.operands-most
+
+pub ref-most : (op n : ℕ) → classOf op ≡ ref n → n ≤ 8
+ref-most = table.ref-most
 
 -- ---- cells: from a row and the N of pick N as the code has them
 module _ (e : List ℕ) (k : ℕ) where

@@ -10,7 +10,7 @@ use lib.ListN.{getD}
 use lib.Dec.{T, eqb, leb, ltb, eqb→eq, leb→le, ltb→lt}
 use borrow.Author.Tests.{eq-eqb, ne-eqb}
 use Rattle.encoding.proofs.Promises.{and-left, and-right}
-use Rattle.isa.specs.Classes.{Class, unknown, row, kind, member, opcodes, among, classOf, kind-unknown, kind-unsupported, kind-ext, kind-variable, kind-goto, kind-if-goto, kind-pick}
+use Rattle.isa.specs.Classes.{Class, binary, trace, tracenz, unary, ref, trace-quick, ext, zero-ext, setv, if-goto, goto, constant, reg, getv, tracev, end, dup, pop, swap, pick, rot, unsupported, unknown, row, kind, member, opcodes, among, classOf, kind-unknown, kind-unsupported, kind-ext, kind-variable, kind-goto, kind-if-goto, kind-pick}
 use Rattle.isa.specs.Rows.{line, rowsFrom, table}
 
 -- ---- what one test shows of every opcode
@@ -89,6 +89,37 @@ needed-most op = leb→le _ _ (rule (λ c. leb (getD (row c) 1 0) 3) tt op)
 pub left-most : (op : ℕ) → getD (row (classOf op)) 2 0 ≤ 3
 unfolding opcodes
 left-most op = leb→le _ _ (rule (λ c. leb (getD (row c) 2 0) 3) tt op)
+
+-- the byte count inside a class, and 0 where it has none
+abbrev inside : Class → ℕ
+inside binary = 0
+inside trace = 0
+inside tracenz = 0
+inside unary = 0
+inside (ref n) = n
+inside (trace-quick n) = n
+inside ext = 0
+inside zero-ext = 0
+inside setv = 0
+inside if-goto = 0
+inside goto = 0
+inside (constant n) = n
+inside reg = 0
+inside getv = 0
+inside tracev = 0
+inside end = 0
+inside dup = 0
+inside pop = 0
+inside swap = 0
+inside pick = 0
+inside rot = 0
+inside unsupported = 0
+inside unknown = 0
+
+-- a ref reads at most 8 bytes
+pub ref-most : (op n : ℕ) → classOf op ≡ ref n → n ≤ 8
+unfolding opcodes
+ref-most op n p = rw p at (leb→le (inside (classOf op)) 8 (rule (λ c. leb (inside c) 8) tt op))
 
 -- ---- the rows by opcode
 rows-at : (n i op : ℕ) → op < n → getD (rowsFrom i n) op [] ≡ line (classOf (i + op))

@@ -3,4 +3,6 @@ pub mod Promises
 pub mod Cells
 pub mod Following
 pub mod Steps
+pub mod Made
 pub mod Recorded
+pub mod WellFormed

@@ -1,4 +1,4 @@
--- What users of `machine` may cite: promises R2 and R3, how a run ends before it steps, and what a loop that follows the machine needs at each step.
+-- What users of `machine` may cite: promises R2 and R3, that records are well formed, how a run ends before it steps, and what a loop that follows the machine needs at each step.
 -- The definitions that it names are in specs/: Machine (the moves), Run (a run on any input), Recorded (what its records hold); and of other crates `isa` Walk, `verifier` Acceptance.
 use mathlib.Core.List.{List, []}
 use mathlib.Core.Logic.{_≢_}
@@ -10,18 +10,20 @@ use Rattle.isa.specs.Decode.{kindAt, needed, left, heightAfter}
 use Rattle.isa.specs.Walk.{After}
 use Rattle.memory.specs.Spans.{spansRefusal}
 use Rattle.memory.specs.Fetch.{targetByte}
-use Rattle.frames.specs.Record.{Record, memory}
+use Rattle.frames.specs.Record.{Record, memory, AllWellFormed}
 use Rattle.verifier.specs.Verdict.{accepted, refused, verdict}
 use Rattle.verifier.specs.Acceptance.{Accepted, Ready}
 use Rattle.machine.specs.Fed.{Fed, State, begin}
 use Rattle.machine.specs.Meaning.{leaves, faults, done, stackAfter, offsetAfter}
 use Rattle.machine.specs.Machine.{stopped, moves}
 use Rattle.machine.specs.Run.{inputRefusal, ended, stepsOf, numberOf}
-use Rattle.machine.specs.Recorded.{FromTarget, AllFromTarget, recordsOf}
+use Rattle.machine.specs.Recorded.{FromTarget, AllFromTarget, recordsOf, Typed}
 use Rattle.machine.proofs.Cells as cells
 use Rattle.machine.proofs.Following as following
 use Rattle.machine.proofs.Steps as steps
+use Rattle.machine.proofs.Made as made
 use Rattle.machine.proofs.Recorded as recorded
+use Rattle.machine.proofs.WellFormed as well-formed
 -- OnWalk e k s i: some walk of e from offset 0 to k arrives with the height of the stack s and has i instructions before k.
 pub use Rattle.machine.proofs.Following.{OnWalk}
 
@@ -112,8 +114,12 @@ records-from-target = recorded.records-from-target
 
 -- the same byte by byte, where inputs are not refused
 pub spans-fine : (m : Fed) (buffer : List ℕ) (used : ℕ) → inputRefusal m buffer used ≡ 0 → spansRefusal (m .image-first) (m .image) (m .work-first) (m .work) ≡ 0
-spans-fine = recorded.spans-fine
+spans-fine = made.spans-fine
 
 pub recorded-byte : (m : Fed) → spansRefusal (m .image-first) (m .image) (m .work-first) (m .work) ≡ 0 → (a : ℕ) (bytes : List ℕ) → FromTarget m (memory a bytes)
     → (i : ℕ) → i < length bytes → getD bytes i 0 ≡ targetByte (m .image-first) (m .image) (m .work-first) (m .work) (a + i)
 recorded-byte = recorded.recorded-byte
+
+-- ---- every record of a run can be encoded and read back, where the inputs are what their types say
+pub records-well-formed : (m : Fed) (v buffer : List ℕ) (used allowance : ℕ) → Typed m v → AllWellFormed (recordsOf (ended m v buffer used allowance))
+records-well-formed = well-formed.records-well-formed

@@ -31,7 +31,7 @@ module _ (m : Fed) (go : State → Ended) (st : State) (P : Ended → Type 0) wh
   onward-to cells rs false f g = g refl
 
   -- what holds at an end, after any other instruction and at a refusal holds after a move
-  onward-by : (d : Done) → (kindAt (m .expression) (st .offset) ≡ kind-end → P (completed (answer (st .stack)) (st .steps + 1) (st .variables) (st .records)))
+  pub onward-by : (d : Done) → (kindAt (m .expression) (st .offset) ≡ kind-end → P (completed (answer (st .stack)) (st .steps + 1) (st .variables) (st .records)))
       → ((cells : List ℕ) (rs : List Record) → d ≡ leaves cells rs → kindAt (m .expression) (st .offset) ≢ kind-end → P (go (moved m st cells rs)))
       → ((n : ℕ) → d ≡ faults n → P (stopped n (st .offset) (st .steps) (st .records)))
       → P (onward m go st d)

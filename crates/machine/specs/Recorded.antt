@@ -1,7 +1,8 @@
 -- What the records of a run hold (document 01, "Meanings the manual leaves open": "readable exactly if all of it lies in one span").
 use mathlib.Core.List.{List, [], _∷_}
 use mathlib.Core.Logic.{_⊎_}
-use lib.ListN.{length}
+use Prim.Native.Nat.{ℕ, _^_, _<_}
+use lib.ListN.{length, getD}
 use Rattle.frames.specs.Record.{Record, memory, variable}
 use Rattle.memory.specs.Fetch.{PartOf}
 use Rattle.machine.specs.Fed.{Fed}
@@ -20,3 +21,11 @@ AllFromTarget m (r ∷ rs) = FromTarget m r × AllFromTarget m rs
 unfoldable pub recordsOf : Ended → List Record
 recordsOf (completed a n v rs) = rs
 recordsOf (stopped r k n rs) = rs
+
+-- what the types of a run's inputs say: expression and spans are bytes, registers and variables are words of 64 bits
+pub record Typed (m : Fed) (v : List ℕ) : Type 0 where
+  pub expression : (i : ℕ) → getD (m .expression) i 0 < 256
+  pub registers : (i : ℕ) → getD (m .registers) i 0 < 2 ^ 64
+  pub image : (i : ℕ) → getD (m .image) i 0 < 256
+  pub work : (i : ℕ) → getD (m .work) i 0 < 256
+  pub variables : (i : ℕ) → getD v i 0 < 2 ^ 64

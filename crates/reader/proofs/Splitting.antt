@@ -1,0 +1,188 @@
+-- The division of a frame into records, as the code goes through it.
+use mathlib.Core.List.{List, [], _∷_, _++_}
+use mathlib.Core.Path.{_≡_, refl, ap, sym, _∙_}
+use Prim.Native.Nat.{ℕ, zero, suc, _+_, _-_, _≤_, _<_}
+use native.Mathlib.Nat.{zero-add, add-zero, add-assoc, not-suc-le-zero}
+use native.Mathlib.Omega.{arith}
+use lib.ListN.{length, drop, length-append, length-drop, drop-of-length-le}
+use lib.Seq.{drop-drop}
+use Rattle.frames.specs.Record.{Record, memory, variable, size, encode, encodeAll, Decoded, found, broken, decode}
+use Rattle.frames.specs.Division.{Division, records, brokenAt, after, afterAll, divide}
+use Rattle.frames.specs.Reading.{itemOf, itemSize}
+use Rattle.frames.proofs.Promises.{length-encode, found-fits, encode-all-more, divide-nothing, divide-found, divide-broken, after-all-nothing, after-all-more, after-all-broken, divided-first, by-item}
+use Rattle.frames.specs.declared.Item.{Item}
+use Rattle.frames.specs.declared.Item.the-variants.{Memory, Variable, NoRecord}
+use Rattle.reader.specs.Read.{Read, memoryRead, variableRead, refusedRead, told, recordRead, readDivided, counted, countDivided}
+use Rattle.reader.specs.Answers.{offsetIn, splitOf}
+use Rattle.reader.specs.declared.Split.{Split}
+use Rattle.reader.specs.declared.Split.the-variants.{Whole, BrokenAt}
+
+-- ---- the offset of a record, with one more record behind
+offset-last : (o : ℕ) (rs : List Record) (r : Record) → offsetIn o (length rs) (rs ++ (r ∷ [])) ≡ o + length (encodeAll rs)
+unfolding encodeAll
+offset-last o [] r = sym (add-zero o)
+offset-last o (q ∷ rs) r = offset-last (o + size q) rs r ∙ rw (length-append (encode q) (encodeAll rs), length-encode q, add-assoc)
+
+offset-other : (o i : ℕ) (rs : List Record) (r : Record) → (length rs ≡ i → ⊥) → offsetIn o i (rs ++ (r ∷ [])) ≡ offsetIn o i rs
+offset-other o zero [] r h = absurd (h refl)
+offset-other o (suc i) [] r h = refl
+offset-other o zero (q ∷ rs) r h = refl
+offset-other o (suc i) (q ∷ rs) r h = offset-other (o + size q) i rs r (λ e. h (ap suc e))
+
+-- ---- the loop: the records before `at`
+pub record Through (l : List ℕ) (wanted at count seen : ℕ) : Type 0 where
+  pub passed : List Record
+  pub same : divide l ≡ afterAll passed (divide (drop at l))
+  pub place : at ≡ length (encodeAll passed)
+  pub inside : at ≤ length l
+  pub counts : count ≡ length passed
+  pub few : count ≤ at
+  pub offset : seen ≡ offsetIn 0 wanted passed
+
+pub through-begins : (l : List ℕ) (wanted : ℕ) → Through l wanted 0 0 0
+unfolding encodeAll
+through-begins l wanted = record { passed = []; same = refl; place = refl; inside = omega arith; counts = refl; few = omega arith; offset = refl }
+
+module _ {l : List ℕ} {wanted at count seen : ℕ} (w : Through l wanted at count seen) where
+  pub through-ends : length l ≤ at → Whole count seen ≡ splitOf wanted (divide l)
+  through-ends h =
+      let all : divide l ≡ records (w .passed) =
+      w .same ∙ ap (λ t. afterAll (w .passed) (divide t)) (drop-of-length-le l {i = at} h) ∙ ap (afterAll (w .passed)) divide-nothing ∙ after-all-nothing (w .passed) in
+      rw (all, w .counts, w .offset)
+
+  module _ (h : at < length l) {n : ℕ} (e : n ≡ itemSize (itemOf (decode (drop at l)))) where
+    pub through-broken : n ≡ 0 → BrokenAt at ≡ splitOf wanted (divide l)
+    through-broken z =
+        by-item (decode (drop at l))
+        (λ b s. let all : divide l ≡ brokenAt (length (encodeAll (w .passed)) + 0) =
+        w .same ∙ ap (afterAll (w .passed)) (divide-broken (drop at l) (omega (arith, length-drop at l)) b) ∙ after-all-broken (w .passed) 0 in
+        rw (all, add-zero, ← (w .place)))
+        (λ r f s. absurd (omega (arith, found-fits (drop at l) f, s)))
+
+    pub through-fits : at + n ≤ length l
+    through-fits =
+        by-item (decode (drop at l)) (λ b s. omega arith) (λ r f s. omega (arith, found-fits (drop at l) f, s, length-drop at l))
+
+    Noted : ℕ → Type 0
+    Noted x = (r : Record) → x ≡ offsetIn 0 wanted (w .passed ++ (r ∷ []))
+
+    more : {x : ℕ} → Noted x → (r : Record) → decode (drop at l) ≡ found r → n ≡ size r → Through l wanted (at + n) (count + 1) x
+    unfolding Noted
+    more q r f s = record {
+      passed = w .passed ++ (r ∷ []);
+      same = w .same ∙ ap (afterAll (w .passed)) (divide-found (drop at l) f ∙ ap (λ t. after r (divide t)) (drop-drop (size r) at l ∙ ap (λ k. drop (at + k) l) (sym s)))
+          ∙ after-all-more (w .passed) r (divide (drop (at + n) l));
+      place = rw (encode-all-more (w .passed) r, length-append (encodeAll (w .passed)) (encode r), length-encode r, ← s, ← (w .place));
+      inside = through-fits;
+      counts = rw (length-append (w .passed) (r ∷ []), ← (w .counts));
+      few = omega (arith, found-fits (drop at l) f, w .few);
+      offset = q r;
+    }
+
+    more-by : (n ≡ 0 → ⊥) → {x : ℕ} → Noted x → Through l wanted (at + n) (count + 1) x
+    more-by z q = by-item (decode (drop at l)) (λ b s. absurd (z (e ∙ s))) (λ r f s. more q r f (e ∙ s))
+
+    -- the offset is noted at the record wanted, and kept at any other
+    pub through-here : (n ≡ 0 → ⊥) → count ≡ wanted → {x : ℕ} → x ≡ at → Through l wanted (at + n) (count + 1) x
+    unfolding Noted
+    through-here z p q = more-by z λ r.
+        q ∙ w .place ∙ sym (zero-add (length (encodeAll (w .passed)))) ∙ sym (offset-last 0 (w .passed) r)
+        ∙ ap (λ i. offsetIn 0 i (w .passed ++ (r ∷ []))) (sym (w .counts) ∙ p)
+
+    pub through-other : (n ≡ 0 → ⊥) → (count ≡ wanted → ⊥) → {x : ℕ} → x ≡ seen → Through l wanted (at + n) (count + 1) x
+    unfolding Noted
+    through-other z p q = more-by z λ r. q ∙ w .offset ∙ sym (offset-other 0 wanted (w .passed) r (λ e. p (w .counts ∙ e)))
+
+-- ---- the record of a number
+-- it is found at its offset, and what is read of it is told from there
+pub record Numbered (l : List ℕ) (i : ℕ) (rs : List Record) (o : ℕ) : Type 0 where
+  pub which : Record
+  pub there : decode (drop (offsetIn o i rs) l) ≡ found which
+  pub tells : (t s : ℕ) → recordRead t s (s + o) i rs ≡ told t (s + offsetIn o i rs) which
+
+pub numbered : (l : List ℕ) (o i : ℕ) (rs : List Record) → divide (drop o l) ≡ records rs → i < length rs → Numbered l i rs o
+numbered l o i [] e h = absurd (not-suc-le-zero h)
+numbered l o zero (r ∷ rs) e h = record { which = r; there = divided-first (drop o l) r rs e .0; tells = λ t s. refl }
+numbered l o (suc i) (r ∷ rs) e h =
+    let rest = numbered l (o + size r) i rs (ap divide (sym (drop-drop (size r) o l)) ∙ divided-first (drop o l) r rs e .1) (omega arith) in
+    record { which = rest .which; there = rest .there; tells = λ t s. ap (λ k. recordRead t s k i rs) (add-assoc s o (size r)) ∙ rest .tells t s }
+
+-- past the last one there is none
+pub unnumbered : (t s o i : ℕ) (rs : List Record) → length rs ≤ i → refusedRead 25 s ≡ recordRead t s o i rs
+unnumbered t s o i [] h = refl
+unnumbered t s o zero (r ∷ rs) h = absurd (not-suc-le-zero h)
+unnumbered t s o (suc i) (r ∷ rs) h = unnumbered t s (o + size r) i rs (omega arith)
+
+-- ---- what the code's answer says
+split-whole : (i : ℕ) (d : Division) {n o : ℕ} → Whole n o ≡ splitOf i d → (rs : List Record) × (d ≡ records rs) × (n ≡ length rs) × (o ≡ offsetIn 0 i rs)
+split-whole i (records rs) e = (rs, refl, cc, cc)
+split-whole i (brokenAt k) e = absurd (let z : _≡_ {A = ℕ} 0 1 = cc in omega arith)
+
+pub split-broken : (i : ℕ) (d : Division) {k : ℕ} → BrokenAt k ≡ splitOf i d → d ≡ brokenAt k
+split-broken i (records rs) e = absurd (let z : _≡_ {A = ℕ} 0 1 = cc in omega arith)
+split-broken i (brokenAt k) e = ap brokenAt (cc)
+
+module _ (l : List ℕ) (i : ℕ) {n o : ℕ} (e : Whole n o ≡ splitOf i (divide l)) where
+  pub none-read : (t s : ℕ) → n ≤ i → refusedRead 25 s ≡ readDivided t s i (divide l)
+  none-read t s h =
+      let w = split-whole i (divide l) e in
+      unnumbered t s s i (w .0) (omega (arith, w .2)) ∙ ap (readDivided t s i) (sym (w .1))
+
+  pub counts-records : (t s k : ℕ) → counted t s k n ≡ countDivided t s k (divide l)
+  counts-records t s k = let w = split-whole i (divide l) e in ap (counted t s k) (w .2) ∙ ap (countDivided t s k) (sym (w .1))
+
+  -- the record of number i stands at o
+  pub record Chosen : Type 0 where
+    pub which : Record
+    pub there : decode (drop o l) ≡ found which
+    pub inside : o + size which ≤ length l
+    pub tells : (t s : ℕ) → told t (s + o) which ≡ readDivided t s i (divide l)
+
+  pub one-read : i < n → Chosen
+  one-read h =
+      let w = split-whole i (divide l) e in
+      let c = numbered l 0 i (w .0) (w .1) (omega (arith, w .2)) in
+      let there : decode (drop o l) ≡ found (c .which) = ap (λ k. decode (drop k l)) (w .3) ∙ c .there in
+      record {
+        which = c .which;
+        there = there;
+        inside = omega (arith, found-fits (drop o l) there, length-drop o l);
+        tells = λ t s. ap (λ k. told t (s + k) (c .which)) (w .3) ∙ sym (c .tells t s) ∙ ap (λ k. recordRead t s k i (w .0)) (add-zero s) ∙ ap (readDivided t s i) (sym (w .1));
+      }
+
+-- ---- what the item says of the record
+told-memory : (t o : ℕ) (r : Record) {a n : ℕ} → Memory a n ≡ itemOf (found r) → memoryRead t a n (o + 11) ≡ told t o r
+told-memory t o (memory a bytes) e = let p : _ ≡ _ = e in cc
+told-memory t o (variable k x) e = absurd (let z : _≡_ {A = ℕ} 0 1 = cc in omega arith)
+
+told-variable : (t o : ℕ) (r : Record) {k x : ℕ} → Variable k x ≡ itemOf (found r) → variableRead t k x ≡ told t o r
+told-variable t o (memory a bytes) e = absurd (let z : _≡_ {A = ℕ} 0 1 = cc in omega arith)
+told-variable t o (variable k x) e = cc
+
+told-none : {X : Type 0} (r : Record) → NoRecord ≡ itemOf (found r) → X
+told-none (memory a bytes) e = absurd (let z : _≡_ {A = ℕ} 0 1 = cc in omega arith)
+told-none (variable k x) e = absurd (let z : _≡_ {A = ℕ} 0 1 = cc in omega arith)
+
+memory-long : (r : Record) {a n : ℕ} → Memory a n ≡ itemOf (found r) → 11 ≤ size r
+memory-long (memory a bytes) e = omega arith
+memory-long (variable k x) e = omega arith
+
+module _ (l : List ℕ) (i : ℕ) {n o : ℕ} (e : Whole n o ≡ splitOf i (divide l)) (h : i < n) {x : Item} (y : x ≡ itemOf (decode (drop o l))) where
+  pub memory-read : {a k : ℕ} → x ≡ Memory a k → (t s : ℕ) → memoryRead t a k (s + o + 11) ≡ readDivided t s i (divide l)
+  memory-read q t s =
+      let c = one-read l i e h in
+      told-memory t (s + o) (c .which) (sym q ∙ y ∙ ap itemOf (c .there)) ∙ c .tells t s
+
+  pub variable-read : {k v : ℕ} → x ≡ Variable k v → (t s : ℕ) → variableRead t k v ≡ readDivided t s i (divide l)
+  variable-read q t s =
+      let c = one-read l i e h in
+      told-variable t (s + o) (c .which) (sym q ∙ y ∙ ap itemOf (c .there)) ∙ c .tells t s
+
+  pub never-broken : {X : Type 0} → x ≡ NoRecord → X
+  never-broken q = let c = one-read l i e h in told-none (c .which) (sym q ∙ y ∙ ap itemOf (c .there))
+
+  -- the header of a memory record is there
+  pub header-inside : {a k : ℕ} → x ≡ Memory a k → o + 11 ≤ length l
+  header-inside q =
+      let c = one-read l i e h in
+      omega (arith, c .inside, memory-long (c .which) (sym q ∙ y ∙ ap itemOf (c .there)))

@@ -1,0 +1,107 @@
+use mathlib.Core.Path.{_≡_, ap, sym, _∙_}
+use mathlib.Core.List.{List}
+use Prim.Native.Nat.{ℕ, _+_, _-_, _≤_}
+use native.Mathlib.Omega.{arith}
+use lib.ListN.{length, take, drop, length-take}
+use denote.Ref.{now}
+use Rattle.frames.specs.Division.{brokenAt, divide}
+use Rattle.frames.proofs.Promises.{broken-inside}
+use Rattle.reader.specs.Located.{frame, located}
+use Rattle.reader.specs.Read.{countDivided}
+use Rattle.reader.specs.Answers.{locatedOf}
+use Rattle.reader.proofs.Locating.{located-inside, count-refused, count-frame}
+use Rattle.reader.proofs.Splitting.{split-broken, counts-records}
+use borrow.Author.Needs.{needs}
+use Rattle.reader.proofs.count_records.Statement.{statement}
+use Rattle.reader.proofs.count_records.Tie as tie
+use Rattle.reader.proofs.count_records.Reads as reads
+use Rattle.reader.proofs.count_records.Lts as lts
+use Rattle.reader.proofs.divide.Reads as divide-reads
+use Rattle.reader.proofs.locate.Reads as locate-reads
+
+-- the frame that was located lies inside the buffer
+framed : (c : tie.After-known-told2)
+    → frame (c .before .tracepoint .given .0 .0) (c .before .tracepoint .given .0 .1 .0) (c .before .tracepoint .given .0 .1 .1 .0)
+    ≡ located (now (c .before .before .before .before .before .args .buffer)) (c .before .before .before .before .before .args .used) (c .before .before .before .before .before .args .number)
+framed c = ap locatedOf (sym (c .before .tracepoint .given .1)) ∙ c .before .before .before .locate .ensures
+
+inside : (c : tie.After-known-told2)
+    → (c .before .tracepoint .given .0 .1 .0 + c .before .tracepoint .given .0 .1 .1 .0 + 8 ≤ length (now (c .before .before .before .before .before .args .buffer)))
+    × (length (now (c .before .before .before .before .before .args .buffer)) ≤ 65536)
+inside c = located-inside _ _ _ (framed c)
+
+-- the part that is lent
+abbrev lent : tie.After-known-told2 → List ℕ
+lent c =
+    let s = c .before .tracepoint .given .0 .1 .0 in
+    take (s + c .before .tracepoint .given .0 .1 .1 .0 - s) (drop s (now (c .before .before .before .before .before .args .buffer)))
+
+-- the division stopped at a broken record
+cut : (c : tie.After-known-told3)
+    → divide (lent (c .before .before .before .before .before)) ≡ brokenAt (c .before .offset .given .0 .0)
+cut c = split-broken _ _ (sym (c .before .offset .given .1) ∙ c .before .before .before .divide .ensures)
+
+locate-requires : tie.Need-locate-requires
+locate-requires c κs = search needs
+
+enum-known-refusal : tie.Need-enum-known-refusal
+enum-known-refusal c = search needs
+
+enum-known-tracepoint : tie.Need-enum-known-tracepoint
+enum-known-tracepoint c = search needs
+
+add-end : tie.Need-add-end
+add-end c = record { fits = omega (arith, inside c) }
+
+sub-divide : tie.Need-sub-divide
+sub-divide c = search needs
+
+part-divide-start : tie.Need-part-divide-start
+part-divide-start c = search needs
+
+part-divide-end : tie.Need-part-divide-end
+part-divide-end c = omega (arith, inside c)
+
+divide-requires : tie.Need-divide-requires
+divide-requires c κs = search needs
+
+enum-known-offset : tie.Need-enum-known-offset
+enum-known-offset c = search needs
+
+add-t21 : tie.Need-add-t21
+add-t21 c =
+    let p = c .before .before .before .before .before in
+    let s = p .before .tracepoint .given .0 .1 .0 in
+    let m = p .before .tracepoint .given .0 .1 .1 .0 in
+    record { fits = omega (arith, inside p, broken-inside (lent p) (cut c), length-take (s + m - s) (drop s (now (p .before .before .before .before .before .args .buffer)))) }
+
+enum-known-records : tie.Need-enum-known-records
+enum-known-records c = search needs
+
+returns : tie.Need-returns
+returns c = count-refused _ _ _ (ap locatedOf (sym (c .before .refusal .given .1)) ∙ c .before .before .before .locate .ensures)
+
+returns-2 : tie.Need-returns-2
+returns-2 c = ap (countDivided _ _ _) (sym (cut c)) ∙ count-frame _ _ _ (framed (c .before .before .before .before .before))
+
+returns-3 : tie.Need-returns-3
+returns-3 c = counts-records _ _ (sym (c .before .records .given .1) ∙ c .before .before .before .divide .ensures) _ _ _ ∙ count-frame _ _ _ (framed (c .before .before .before .before .before))
+
+pub count-records-spec : {M : Type 1} → statement M
+count-records-spec =
+    tie.close
+    (tie.spec
+    locate-requires
+    enum-known-refusal
+    enum-known-tracepoint
+    add-end
+    sub-divide
+    part-divide-start
+    part-divide-end
+    divide-requires
+    enum-known-offset
+    add-t21
+    enum-known-records
+    returns
+    returns-2
+    returns-3)

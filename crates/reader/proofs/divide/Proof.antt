@@ -1,0 +1,84 @@
+use denote.Ref.{now}
+use mathlib.Core.Logic.{⊎-elim}
+use mathlib.Core.Path.{_≡_, ap, _∙_}
+use lib.ListN.{drop}
+use Rattle.encoding.proofs.Promises.{part-lent}
+use Rattle.frames.specs.Record.{decode}
+use Rattle.frames.specs.Reading.{itemOf, itemSize}
+use Prim.Native.Nat.{_-_}
+use native.Mathlib.Omega.{arith}
+use lib.ListN.{length}
+use borrow.Author.Needs.{needs}
+use Rattle.reader.proofs.Splitting.{Through, through-begins, through-ends, through-broken, through-fits, through-here, through-other}
+use Rattle.reader.proofs.divide.Statement.{statement}
+use Rattle.reader.proofs.divide.Tie as tie
+use Rattle.reader.proofs.divide.Reads as reads
+use Rattle.reader.proofs.divide.Lts as lts
+use Rattle.frames.proofs.record_size.Reads as record-size-reads
+
+abbrev Inv-loop : tie.InvT-loop
+Inv-loop bytes wanted at₀ count₀ found₀ at count found = Through bytes wanted at count found
+
+abbrev μ-loop : tie.MeasureT-loop
+μ-loop bytes wanted at₀ count₀ found₀ at count found = length bytes - at
+
+-- the size of the record at `at`: the part that is lent is all the rest
+sized : (c : lts.After-record-size (record-size-reads.Asked, record-size-reads.Learnt) reads.Pre reads.Post Inv-loop μ-loop)
+    → c .record-size .result ≡ itemSize (itemOf (decode (drop (c .before .before .before .loop .at) (now (c .before .before .before .before .before .args .bytes)))))
+sized c = c .record-size .ensures ∙ ap (λ t. itemSize (itemOf (decode t))) (part-lent (now (c .before .before .before .before .before .args .bytes)) (c .before .before .before .loop .at))
+
+loop-holds : tie.Need-loop-holds Inv-loop μ-loop
+loop-holds c = through-begins _ _
+
+sub-record-size : tie.Need-sub-record-size Inv-loop μ-loop
+sub-record-size c = search needs
+
+part-record-size-start : tie.Need-part-record-size-start Inv-loop μ-loop
+part-record-size-start c = search needs
+
+part-record-size-end : tie.Need-part-record-size-end Inv-loop μ-loop
+part-record-size-end c = search needs
+
+record-size-requires : tie.Need-record-size-requires Inv-loop μ-loop
+record-size-requires c κs = search needs
+
+returns : tie.Need-returns Inv-loop μ-loop
+returns c = through-broken (c .before .before .before .before .loop .inv) (c .before .before .before .loop-test .taken) (sized (c .before)) (omega arith)
+
+add-at : tie.Need-add-at Inv-loop μ-loop
+add-at c = record { fits = omega (arith, through-fits (c .before .before .before .before .before .loop .inv) (omega arith) (sized (c .before .before))) }
+
+add-count : tie.Need-add-count Inv-loop μ-loop
+add-count c = record { fits = omega (arith, c .before .before .before .before .before .loop .inv .few) }
+
+loop-less : tie.Need-loop-less Inv-loop μ-loop
+loop-less c = omega arith
+
+loop-again : tie.Need-loop-again Inv-loop μ-loop
+loop-again c =
+    let w = c .before .before .before .before .before .loop .inv in
+    ⊎-elim
+    (λ p. through-here w (omega arith) (sized (c .before .before)) (omega arith) (p .0 .taken) (p .1))
+    (λ p. through-other w (omega arith) (sized (c .before .before)) (omega arith) (p .0 .left) (p .1))
+    (c .if2 .came)
+
+returns-2 : tie.Need-returns-2 Inv-loop μ-loop
+returns-2 c = through-ends (c .before .loop .inv) (omega arith)
+
+pub divide-spec : {M : Type 1} → statement M
+divide-spec =
+    tie.close
+    (tie.spec
+    Inv-loop
+    μ-loop
+    loop-holds
+    sub-record-size
+    part-record-size-start
+    part-record-size-end
+    record-size-requires
+    returns
+    add-at
+    add-count
+    loop-less
+    loop-again
+    returns-2)

@@ -1,0 +1,113 @@
+use mathlib.Core.Path.{_≡_, ap, sym, _∙_}
+use native.Mathlib.Omega.{arith}
+use lib.ListN.{drop}
+use denote.Ref.{now}
+use Rattle.encoding.proofs.Promises.{part-lent}
+use Rattle.frames.specs.Record.{decode}
+use Rattle.frames.specs.Division.{brokenAt, divide}
+use Rattle.frames.specs.Reading.{itemOf}
+use Rattle.frames.proofs.Promises.{broken-inside}
+use Rattle.reader.specs.Read.{readDivided}
+use Rattle.reader.specs.Answers.{splitOf}
+use Rattle.reader.specs.declared.Split.the-variants.{Whole}
+use Rattle.reader.proofs.Splitting.{split-broken, none-read, one-read, memory-read, variable-read, never-broken, header-inside}
+use borrow.Author.Needs.{needs}
+use Rattle.reader.proofs.read_in.Statement.{statement}
+use Rattle.reader.proofs.read_in.Tie as tie
+use Rattle.reader.proofs.read_in.Reads as reads
+use Rattle.reader.proofs.read_in.Lts as lts
+use Rattle.frames.proofs.read_record.Reads as read-record-reads
+use Rattle.reader.proofs.divide.Reads as divide-reads
+
+-- the division stopped at a broken record, or went through
+cut : (c : tie.After-known-told) → divide (now (c .before .before .before .before .before .args .bytes)) ≡ brokenAt (c .before .offset .given .0 .0)
+cut c = split-broken _ _ (sym (c .before .offset .given .1) ∙ c .before .before .before .divide .ensures)
+
+whole : (c : tie.After-known-told2)
+    → Whole (c .before .count .given .0 .0) (c .before .count .given .0 .1 .0)
+    ≡ splitOf (c .before .before .before .before .before .args .index) (divide (now (c .before .before .before .before .before .args .bytes)))
+whole c = sym (c .before .count .given .1) ∙ c .before .before .before .divide .ensures
+
+-- the record that is read: the part that is lent is all from its offset on
+item : (c : tie.After-read-record)
+    → c .read-record .result ≡ itemOf (decode (drop (c .before .before .before .before .count .given .0 .1 .0) (now (c .before .before .before .before .before .before .before .before .args .bytes))))
+item c =
+    c .read-record .ensures
+    ∙ ap (λ t. itemOf (decode t)) (part-lent (now (c .before .before .before .before .before .before .before .before .args .bytes)) (c .before .before .before .before .count .given .0 .1 .0))
+
+divide-requires : tie.Need-divide-requires
+divide-requires c κs = search needs
+
+enum-known-offset : tie.Need-enum-known-offset
+enum-known-offset c = search needs
+
+add-t14 : tie.Need-add-t14
+add-t14 c = record { fits = omega (arith, c .before .before .before .before .before .pre, broken-inside _ (cut c)) }
+
+enum-known-count : tie.Need-enum-known-count
+enum-known-count c = search needs
+
+returns : tie.Need-returns
+returns c = none-read _ _ (whole (c .before)) _ _ (omega arith)
+
+sub-read-record : tie.Need-sub-read-record
+sub-read-record c = omega (arith, one-read _ _ (whole (c .before)) (omega arith) .inside)
+
+part-read-record-start : tie.Need-part-read-record-start
+part-read-record-start c = omega (arith, one-read _ _ (whole (c .before)) (omega arith) .inside)
+
+part-read-record-end : tie.Need-part-read-record-end
+part-read-record-end c = search needs
+
+read-record-requires : tie.Need-read-record-requires
+read-record-requires c κs = search needs
+
+enum-known-address : tie.Need-enum-known-address
+enum-known-address c = search needs
+
+add-t23 : tie.Need-add-t23
+add-t23 c = record { fits = omega (arith, c .before .before .before .before .before .before .before .before .before .before .before .pre, header-inside _ _ (whole (c .before .before .before .before .before .before)) (omega arith) (item (c .before .before .before)) (c .before .address .given .1)) }
+
+add-t24 : tie.Need-add-t24
+add-t24 c = record { fits = omega (arith, c .before .before .before .before .before .before .before .before .before .before .before .pre, header-inside _ _ (whole (c .before .before .before .before .before .before)) (omega arith) (item (c .before .before .before)) (c .before .address .given .1)) }
+
+enum-known-number : tie.Need-enum-known-number
+enum-known-number c = search needs
+
+enum-told : tie.Need-enum-told
+enum-told c = search needs
+
+returns-2 : tie.Need-returns-2
+returns-2 c = ap (readDivided _ _ _) (sym (cut c))
+
+returns-3 : tie.Need-returns-3
+returns-3 c = memory-read _ _ (whole (c .before .before .before .before .before .before)) (omega arith) (item (c .before .before .before)) (c .before .address .given .1) _ _
+
+returns-4 : tie.Need-returns-4
+returns-4 c = variable-read _ _ (whole (c .before .before .before .before .before .before)) (omega arith) (item (c .before .before .before)) (c .before .number .given .1) _ _
+
+returns-5 : tie.Need-returns-5
+returns-5 c = never-broken _ _ (whole (c .before .before .before .before .before)) (omega arith) (item (c .before .before)) (c .enum-told .given .1)
+
+pub read-in-spec : {M : Type 1} → statement M
+read-in-spec =
+    tie.close
+    (tie.spec
+    divide-requires
+    enum-known-offset
+    add-t14
+    enum-known-count
+    returns
+    sub-read-record
+    part-read-record-start
+    part-read-record-end
+    read-record-requires
+    enum-known-address
+    add-t23
+    add-t24
+    enum-known-number
+    enum-told
+    returns-2
+    returns-3
+    returns-4
+    returns-5)
