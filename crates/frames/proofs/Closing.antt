@@ -2,21 +2,26 @@
 use mathlib.Core.Bool.{_&&_}
 use mathlib.Core.List.{List, [], _∷_, _++_, append-nil}
 use mathlib.Core.Path.{_≡_, refl, ap, sym, _∙_}
-use Prim.Native.Nat.{ℕ, _^_, _<_}
+use Prim.Native.Nat.{ℕ, _+_, _^_, _<_}
 use native.Mathlib.Omega.{arith}
-use lib.ListN.{length, getD, take, drop, set, drop-of-length-le}
+use lib.ListN.{length, getD, take, drop, set, length-append, drop-of-length-le}
 use lib.Seq.{drop-cons}
 use lib.Dec.{eqb, eqb→eq}
 use Rattle.encoding.specs.LittleEndian.{littleBytes}
 use Rattle.encoding.specs.Written.{writtenAt}
 use Rattle.encoding.proofs.Promises.{and-left, and-right, little-of-bytes, written-store, written-more}
-use Rattle.frames.specs.Record.{field}
+use Rattle.frames.specs.Record.{Record, encodeAll, field}
+use Rattle.frames.specs.Frame.{encodeFrame}
 use Rattle.frames.specs.Trailer.{trailerSize, encodeTrailer, TrailerRead, trailer, brokenTrailer, decodeTrailer}
 use Rattle.frames.proofs.Decoding.{chosen, piece, mark-first, field-below, field-bytes}
 
 pub trailer-length : (t n : ℕ) → length (encodeTrailer t n) ≡ trailerSize
 unfolding encodeTrailer littleBytes
 trailer-length t n = refl
+
+pub frame-length : (t : ℕ) (rs : List Record) → length (encodeFrame t rs) ≡ length (encodeAll rs) + trailerSize
+unfolding encodeFrame
+frame-length t rs = length-append (encodeAll rs) (encodeTrailer t (length (encodeAll rs))) ∙ ap (λ n. length (encodeAll rs) + n) (trailer-length t (length (encodeAll rs)))
 
 pub decode-trailer : (t n : ℕ) → t < 2 ^ 16 → n < 2 ^ 32 → decodeTrailer (encodeTrailer t n) ≡ trailer t n
 unfolding encodeTrailer decodeTrailer littleBytes

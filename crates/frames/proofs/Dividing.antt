@@ -61,10 +61,14 @@ unfolding encodeAll
 after-all-broken [] i = rw zero-add
 after-all-broken (r ∷ rs) i = rw (after-all-broken rs i, length-append (encode r) (encodeAll rs), size-encode r, add-assoc)
 
+pub encode-all-append : (rs ts : List Record) → encodeAll (rs ++ ts) ≡ encodeAll rs ++ encodeAll ts
+unfolding encodeAll
+encode-all-append [] ts = refl
+encode-all-append (r ∷ rs) ts = ap (λ l. encode r ++ l) (encode-all-append rs ts) ∙ sym (append-assoc (encode r) (encodeAll rs) (encodeAll ts))
+
 pub encode-all-more : (rs : List Record) (r : Record) → encodeAll (rs ++ (r ∷ [])) ≡ encodeAll rs ++ encode r
 unfolding encodeAll
-encode-all-more [] r = append-nil (encode r)
-encode-all-more (q ∷ rs) r = rw (encodeAll, encode-all-more rs r, append-assoc)
+encode-all-more rs r = encode-all-append rs (r ∷ []) ∙ ap (λ l. encodeAll rs ++ l) (append-nil (encode r))
 
 -- ---- the division of what was encoded
 pub divide-encoded : (rs : List Record) (l : List ℕ) → AllWellFormed rs → divide (encodeAll rs ++ l) ≡ afterAll rs (divide l)

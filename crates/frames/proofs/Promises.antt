@@ -38,6 +38,9 @@ found-fits = decoding.found-fits
 pub encode-decode : (l : List ℕ) → ((i : ℕ) → getD l i 0 < 256) → {r : Record} → decode l ≡ found r → WellFormed r × (l ≡ encode r ++ drop (size r) l)
 encode-decode = decoding.encode-decode
 
+pub encode-all-append : (rs ts : List Record) → encodeAll (rs ++ ts) ≡ encodeAll rs ++ encodeAll ts
+encode-all-append = dividing.encode-all-append
+
 pub encode-all-more : (rs : List Record) (r : Record) → encodeAll (rs ++ (r ∷ [])) ≡ encodeAll rs ++ encode r
 encode-all-more = dividing.encode-all-more
 
@@ -87,6 +90,10 @@ broken-inside = dividing.broken-inside
 -- ---- the trailer: its length, and both ways between its numbers and its bytes
 pub trailer-length : (t n : ℕ) → length (encodeTrailer t n) ≡ trailerSize
 trailer-length = closing.trailer-length
+
+-- a frame is its records and the trailer
+pub frame-length : (t : ℕ) (rs : List Record) → length (encodeFrame t rs) ≡ length (encodeAll rs) + trailerSize
+frame-length = closing.frame-length
 
 pub decode-trailer : (t n : ℕ) → t < 2 ^ 16 → n < 2 ^ 32 → decodeTrailer (encodeTrailer t n) ≡ trailer t n
 decode-trailer = closing.decode-trailer

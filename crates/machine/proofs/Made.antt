@@ -169,7 +169,7 @@ module _ (m : Fed) (fine : spans m ≡ 0) (P : Record → Type 0) (of-memory : O
     moves-all zero st f p = p
     moves-all (suc left) st f p =
         let free = room - length (encodeAll (st .records)) in
-        onward-by m (moves m room left) st (λ o. All P (recordsOf o)) (done m (st .offset) (st .stack) (st .variables) free) (λ _. p)
+        onward-by m (moves m room left) st (λ o. All P (recordsOf o)) (done m (st .offset) (st .stack) (st .variables) free) (λ _ _ _ _. p)
         (λ cells rs e h. moves-all left (moved m st cells rs) (keeps .kept st f cells rs e h)
         (all-append P (st .records) rs p (rw e at (done-all (st .offset) (st .stack) (st .variables) free (keeps .of-variable st f)))))
         (λ _ _. p)

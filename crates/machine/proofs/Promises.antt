@@ -10,18 +10,20 @@ use Rattle.isa.specs.Decode.{kindAt, needed, left, heightAfter}
 use Rattle.isa.specs.Walk.{After}
 use Rattle.memory.specs.Spans.{spansRefusal}
 use Rattle.memory.specs.Fetch.{targetByte}
-use Rattle.frames.specs.Record.{Record, memory, AllWellFormed}
+use Rattle.frames.specs.Trailer.{trailerSize}
+use Rattle.frames.specs.Record.{Record, encodeAll, memory, AllWellFormed}
 use Rattle.verifier.specs.Verdict.{accepted, refused, verdict}
 use Rattle.verifier.specs.Acceptance.{Accepted, Ready}
 use Rattle.machine.specs.Fed.{Fed, State, begin}
-use Rattle.machine.specs.Meaning.{leaves, faults, done, stackAfter, offsetAfter}
-use Rattle.machine.specs.Machine.{stopped, moves}
+use Rattle.machine.specs.Meaning.{leaves, faults, endDone, done, stackAfter, offsetAfter}
+use Rattle.machine.specs.Machine.{Answer, completed, stopped, moves}
 use Rattle.machine.specs.Run.{inputRefusal, ended, stepsOf, numberOf}
 use Rattle.machine.specs.Recorded.{FromTarget, AllFromTarget, recordsOf, Typed}
 use Rattle.machine.proofs.Cells as cells
 use Rattle.machine.proofs.Following as following
 use Rattle.machine.proofs.Steps as steps
 use Rattle.machine.proofs.Made as made
+use Rattle.machine.proofs.Ending as ending
 use Rattle.machine.proofs.Recorded as recorded
 use Rattle.machine.proofs.WellFormed as well-formed
 -- OnWalk e k s i: some walk of e from offset 0 to k arrives with the height of the stack s and has i instructions before k.
@@ -106,6 +108,18 @@ module _ (m : Fed) {n g l : ℕ} (a : Accepted (m .expression) n g l) {k : ℕ} 
   -- a refusal there is one of 17 to 21
   pub walk-faults : {r : ℕ} → done m k s v free ≡ faults r → (17 ≤ r) × (r ≤ 21)
   walk-faults = following.walk-faults m a w v free
+
+-- ---- an end needs room for the trailer
+pub end-done : (m : Fed) (k : ℕ) (s v : List ℕ) (free : ℕ) → kindAt (m .expression) k ≡ kind-end → done m k s v free ≡ endDone free
+end-done = ending.end-done
+
+pub end-room : {free : ℕ} {cells : List ℕ} {rs : List Record} → endDone free ≡ leaves cells rs → trailerSize ≤ free
+end-room = ending.end-room
+
+-- so that the records of a run that completed, and the trailer, fit into the buffer
+pub completed-fits : (m : Fed) (v buffer : List ℕ) (used allowance : ℕ) (a : Answer) {n : ℕ} (w : List ℕ) (rs : List Record) → ended m v buffer used allowance ≡ completed a n w rs
+    → (used + (length (encodeAll rs) + trailerSize) ≤ length buffer) × (length buffer ≤ 65536)
+completed-fits = ending.completed-fits
 
 -- ---- R3: each recorded byte is the target's byte at the recorded address
 -- a memory record of a run, completed or stopped, holds exactly the bytes of the one span that holds its range

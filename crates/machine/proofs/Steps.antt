@@ -31,12 +31,12 @@ module _ (m : Fed) (go : State → Ended) (st : State) (P : Ended → Type 0) wh
   onward-to cells rs false f g = g refl
 
   -- what holds at an end, after any other instruction and at a refusal holds after a move
-  pub onward-by : (d : Done) → (kindAt (m .expression) (st .offset) ≡ kind-end → P (completed (answer (st .stack)) (st .steps + 1) (st .variables) (st .records)))
+  pub onward-by : (d : Done) → ((cells : List ℕ) (rs : List Record) → d ≡ leaves cells rs → kindAt (m .expression) (st .offset) ≡ kind-end → P (completed (answer (st .stack)) (st .steps + 1) (st .variables) (st .records)))
       → ((cells : List ℕ) (rs : List Record) → d ≡ leaves cells rs → kindAt (m .expression) (st .offset) ≢ kind-end → P (go (moved m st cells rs)))
       → ((n : ℕ) → d ≡ faults n → P (stopped n (st .offset) (st .steps) (st .records)))
       → P (onward m go st d)
   onward-by (leaves cells rs) f g h =
-      onward-to cells rs (eqb (kindAt (m .expression) (st .offset)) kind-end) (λ t. f (eqb-true _ _ t)) (λ t. g cells rs refl (eqb-false _ _ t))
+      onward-to cells rs (eqb (kindAt (m .expression) (st .offset)) kind-end) (λ t. f cells rs refl (eqb-true _ _ t)) (λ t. g cells rs refl (eqb-false _ _ t))
   onward-by (faults n) f g h = h n refl
 
 -- ---- moves
@@ -48,7 +48,7 @@ module _ (m : Fed) (room : ℕ) where
   moves-allowed (suc left) st =
       onward-by m (moves m room left) st (λ o. stepsOf o ≤ st .steps + suc left)
       (done m (st .offset) (st .stack) (st .variables) (room - length (encodeAll (st .records))))
-      (λ _. omega arith) (λ cells rs p h. omega (arith, moves-allowed left (moved m st cells rs))) (λ n p. omega arith)
+      (λ _ _ _ _. omega arith) (λ cells rs p h. omega (arith, moves-allowed left (moved m st cells rs))) (λ n p. omega arith)
 
   module _ {n g l : ℕ} (a : Accepted (m .expression) n g l) where
     -- no more steps than the longest walk has instructions
@@ -58,7 +58,7 @@ module _ (m : Fed) (room : ℕ) where
     moves-longest (suc left) st w =
         let free = room - length (encodeAll (st .records)) in
         onward-by m (moves m room left) st (λ o. stepsOf o ≤ l) (done m (st .offset) (st .stack) (st .variables) free)
-        (λ _. steps-short a w) (λ cells rs p h. moves-longest left (moved m st cells rs) (walk-moves m a w (st .variables) free p h)) (λ n p. omega (arith, steps-short a w))
+        (λ _ _ _ _. steps-short a w) (λ cells rs p h. moves-longest left (moved m st cells rs) (walk-moves m a w (st .variables) free p h)) (λ n p. omega (arith, steps-short a w))
 
     -- as many steps left as the longest walk still has are enough
     pub moves-enough : (left : ℕ) (st : State) → OnWalk (m .expression) (st .offset) (st .stack) (st .steps) → l ≤ st .steps + left → numberOf (moves m room left st) ≢ 16
@@ -67,7 +67,7 @@ module _ (m : Fed) (room : ℕ) where
     moves-enough (suc left) st w e =
         let free = room - length (encodeAll (st .records)) in
         onward-by m (moves m room left) st (λ o. numberOf o ≢ 16) (done m (st .offset) (st .stack) (st .variables) free)
-        (λ _. omega arith) (λ cells rs p h. moves-enough left (moved m st cells rs) (walk-moves m a w (st .variables) free p h) (omega arith))
+        (λ _ _ _ _. omega arith) (λ cells rs p h. moves-enough left (moved m st cells rs) (walk-moves m a w (st .variables) free p h) (omega arith))
         (λ n p. omega (arith, walk-faults m a w (st .variables) free p))
 
 -- ---- whole runs

@@ -90,7 +90,7 @@ module _ (l : List ℕ) (u : ℕ) where
   unfit-by : (65536 < length l → ⊥) → (length l < u → ⊥) → unfit l u ≡ false
   unfit-by f g = rw (le-ltb 65536 (length l) (omega arith), le-ltb (length l) u (omega arith))
 
-  too-large : 65536 < length l → unfit l u ≡ true
+  pub too-large : 65536 < length l → unfit l u ≡ true
   too-large h = rw (lt-ltb 65536 (length l) h)
 
   too-far-by : (b : Bool) → length l < u → b || ltb (length l) u ≡ true
@@ -100,19 +100,24 @@ module _ (l : List ℕ) (u : ℕ) where
   too-far : length l < u → unfit l u ≡ true
   too-far h = too-far-by (ltb 65536 (length l)) h
 
+  -- the code's second test decides where the first does not hold
+  pub second-test : length l ≤ 65536 → ltb (length l) u ≡ unfit l u
+  second-test h = rw (le-ltb 65536 (length l) h)
+
+  pub fit-lengths : unfit l u ≡ false → (length l ≤ 65536) × (u ≤ length l)
+  fit-lengths e =
+      cases 65536 (length l) (λ h. no-true (sym e ∙ too-large h)) λ h.
+      cases (length l) u (λ k. no-true (sym e ∙ too-far k)) (λ k. (h, k))
+
 -- ---- the walker's step
 module _ (l : List ℕ) (place : ℕ) where
-  pub walked-large : 65536 < length l → refused 15 0 ≡ walked l place
+  pub walked-unfit : unfit l place ≡ true → refused 15 0 ≡ walked l place
   unfolding walked
-  walked-large h = rw (too-large l place h)
+  walked-unfit e = rw e
 
-  pub walked-far : length l < place → refused 15 0 ≡ walked l place
+  pub walked-fit : unfit l place ≡ false → frameBefore l place ≡ walked l place
   unfolding walked
-  walked-far h = rw (too-far l place h)
-
-  pub walked-fit : length l ≤ 65536 → place ≤ length l → frameBefore l place ≡ walked l place
-  unfolding walked
-  walked-fit h k = rw (unfit-by l place (λ x. omega arith) (λ x. omega arith))
+  walked-fit e = rw e
 
 -- ---- the frame of a number: frame `number` from `used` on is frame `left` from `end` on
 pub record Back (l : List ℕ) (used number end left : ℕ) : Type 0 where
@@ -121,13 +126,9 @@ pub record Back (l : List ℕ) (used number end left : ℕ) : Type 0 where
   pub small : length l ≤ 65536
 
 module _ (l : List ℕ) (used number : ℕ) where
-  pub located-large : 65536 < length l → refused 15 0 ≡ located l used number
+  pub located-unfit : unfit l used ≡ true → refused 15 0 ≡ located l used number
   unfolding located
-  located-large h = rw (too-large l used h)
-
-  pub located-far : length l < used → refused 15 0 ≡ located l used number
-  unfolding located
-  located-far h = rw (too-far l used h)
+  located-unfit e = rw e
 
   pub back-begins : length l ≤ 65536 → used ≤ length l → Back l used number used number
   unfolding located
@@ -189,9 +190,7 @@ inside-by l end (refused r c) h k w = tt
 
 fit-by : (l : List ℕ) (used : ℕ) (b : Bool) (x : Located) → unfit l used ≡ b → Upto used x → Inside l (cond b (refused 15 0) x)
 fit-by l used true x e w = tt
-fit-by l used false x e w =
-    cases 65536 (length l) (λ h. no-true (sym e ∙ too-large l used h)) λ h.
-    cases (length l) used (λ k. no-true (sym e ∙ too-far l used k)) (λ k. inside-by l used x h k w)
+fit-by l used false x e w = inside-by l used x (fit-lengths l used e .0) (fit-lengths l used e .1) w
 
 located-in : (l : List ℕ) (used number : ℕ) → Inside l (located l used number)
 unfolding located

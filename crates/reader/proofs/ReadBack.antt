@@ -15,7 +15,7 @@ use Rattle.frames.specs.Trailer.{trailerSize, encodeTrailer, trailer, decodeTra
 use Rattle.frames.specs.Frame.{encodeFrame}
 use Rattle.frames.specs.Reading.{endingOf}
 use Rattle.frames.specs.declared.Ending.the-variants.{Closes}
-use Rattle.frames.proofs.Promises.{length-encode, trailer-length, decode-trailer, divide-all}
+use Rattle.frames.proofs.Promises.{length-encode, encode-all-append, frame-length, trailer-length, decode-trailer, divide-all}
 use Rattle.reader.specs.Located.{Located, frame, refused, frameBefore, older, frameBack, located}
 use Rattle.reader.specs.Read.{refusedRead, told, recordRead, readLocated, reading, counted, countLocated, counting}
 use Rattle.reader.proofs.Splitting.{unnumbered}
@@ -63,11 +63,6 @@ module _ (l m : List ℕ) (u : ℕ) (same : take u l ≡ take u m) (hl : u ≤ l
   count-same (refused r k) w = refl
 
 -- ---- a record among others
-encode-all-append : (rs ts : List Record) → encodeAll (rs ++ ts) ≡ encodeAll rs ++ encodeAll ts
-unfolding encodeAll
-encode-all-append [] ts = refl
-encode-all-append (r ∷ rs) ts = ap (λ l. encode r ++ l) (encode-all-append rs ts) ∙ sym (append-assoc (encode r) (encodeAll rs) (encodeAll ts))
-
 told-at : (t s o : ℕ) (before : List Record) (r : Record) (behind : List Record)
     → recordRead t s o (length before) (before ++ (r ∷ behind)) ≡ told t (o + length (encodeAll before)) r
 unfolding encodeAll
@@ -93,8 +88,7 @@ module _ (l : List ℕ) (u t : ℕ) (rs : List Record) (small : length l ≤ 655
   long = length (encodeAll rs)
 
   frame-long : length (encodeFrame t rs) ≡ long + trailerSize
-  unfolding encodeFrame
-  frame-long = length-append (encodeAll rs) (encodeTrailer t long) ∙ ap (λ n. long + n) (trailer-length t long)
+  frame-long = frame-length t rs
 
   after-long : length after ≡ length l
   after-long = written-length l u (encodeFrame t rs)

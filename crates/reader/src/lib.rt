@@ -3,7 +3,7 @@ ghost use mathlib.Core.Path.{_≡_};
 ghost use Prim.Native.Nat.{_+_, _≤_};
 ghost use lib.ListN.{length};
 ghost use Rattle.frames.specs.Division.{divide as division};
-ghost use Rattle.reader.specs.Located.{frameBefore, located, walked};
+ghost use Rattle.reader.specs.Located.{unfit, frameBefore, located, walked};
 ghost use Rattle.reader.specs.Read.{reading, counting, readDivided, countDivided};
 ghost use Rattle.reader.specs.Answers.{locatedOf, readOf, countedOf, splitOf};
 use frames::Ending;
@@ -35,6 +35,16 @@ pub enum Split {
 }
 
 // ---- where a frame is
+// 15: the buffer is too large, or more is used than it has.
+fn is_unfit(buffer: &[u8], used: usize) -> bool
+    ensures { λ r. ⌜ r ≡ unfit (now (buffer .entry)) used ⌝ }
+{
+    if 65536 < buffer.len() {
+        return true;
+    }
+    buffer.len() < used
+}
+
 // The frame that ends at `end`.
 fn frame_before(buffer: &[u8], end: usize) -> Place
     requires { ⌜ end ≤ length (now buffer) ⌝ }
@@ -62,10 +72,7 @@ fn frame_before(buffer: &[u8], end: usize) -> Place
 pub fn walk(buffer: &[u8], place: usize) -> Place
     ensures { λ r. ⌜ locatedOf r ≡ walked (now (buffer .entry)) place ⌝ }
 {
-    if 65536 < buffer.len() {
-        return Place::NoFrame(15, 0);
-    }
-    if buffer.len() < place {
+    if is_unfit(buffer, place) {
         return Place::NoFrame(15, 0);
     }
     frame_before(buffer, place)
@@ -75,10 +82,7 @@ pub fn walk(buffer: &[u8], place: usize) -> Place
 pub fn locate(buffer: &[u8], used: usize, number: u64) -> Place
     ensures { λ r. ⌜ locatedOf r ≡ located (now (buffer .entry)) used number ⌝ }
 {
-    if 65536 < buffer.len() {
-        return Place::NoFrame(15, 0);
-    }
-    if buffer.len() < used {
+    if is_unfit(buffer, used) {
         return Place::NoFrame(15, 0);
     }
     let mut end = used;

@@ -11,21 +11,21 @@ use lib.Dec.{eqb, leb}
 use borrow.Author.Tests.{eqb-true, eqb-false, leb-true}
 use Rattle.encoding.specs.Written.{writtenAt}
 use Rattle.encoding.proofs.Promises.{written-length, written-nothing, written-more}
-use Rattle.isa.specs.Classes.{Class, binary, trace, tracenz, unary, ref, trace-quick, ext, zero-ext, setv, if-goto, goto, constant, reg, getv, tracev, end, dup, pop, swap, pick, rot, unsupported, unknown, kind, kind-end}
-use Rattle.isa.specs.Decode.{kindAt, classAt}
+use Rattle.isa.specs.Classes.{kind-end}
+use Rattle.isa.specs.Decode.{kindAt}
 use Rattle.isa.specs.Held.{held}
 use Rattle.isa.specs.Rows.{table}
 use Rattle.isa.specs.declared.Stack.{Stack}
 use Rattle.isa.proofs.Promises.{length-held}
 use Rattle.frames.specs.Record.{Record, encodeAll}
 use Rattle.frames.specs.Trailer.{trailerSize, encodeTrailer}
-use Rattle.frames.proofs.Promises.{trailer-length}
+use Rattle.frames.proofs.Promises.{encode-all-append, trailer-length}
 use Rattle.verifier.specs.Acceptance.{Accepted, Ready}
 use Rattle.machine.specs.Fed.{Fed, State, begin}
 use Rattle.machine.specs.Meaning.{Done, leaves, faults, endDone, done, stackAfter, variablesAfter, offsetAfter}
 use Rattle.machine.specs.Machine.{answer, Ended, completed, stopped, onward, moves}
 use Rattle.machine.specs.Run.{leftBytes, variablesOf, usedOf, bufferOf}
-use Rattle.machine.proofs.Promises.{OnWalk, walk-begins, walk-ready, walk-moves, walk-faults}
+use Rattle.machine.proofs.Promises.{OnWalk, walk-begins, walk-ready, walk-moves, walk-faults, end-done, end-room}
 use Rattle.operations.specs.Here.{Place}
 use Rattle.operations.specs.declared.Next.{Next}
 use Rattle.stepping.specs.Effect.{Effect, goes, completes, refuses, effectOf, effect, Did}
@@ -40,11 +40,6 @@ cellsOf s = held (s .cells) (s .height)
 abbrev state : ℕ → List ℕ → List ℕ → List Record → ℕ → State
 state k s v rs n = record { offset = k; stack = s; variables = v; records = rs; steps = n }
 
-encode-all-append : (a b : List Record) → encodeAll (a ++ b) ≡ encodeAll a ++ encodeAll b
-unfolding encodeAll
-encode-all-append [] b = refl
-encode-all-append (r ∷ a) b = rw (encode-all-append a b, append-assoc) refl
-
 -- one instruction of the machine, by its effect
 abbrev follow : (State → Ended) → State → Effect → Ended
 follow go st (goes k s v rs) = go (state k s v (st .records ++ rs) (st .steps + 1))
@@ -56,45 +51,6 @@ follow-by : (m : Fed) (go : State → Ended) (st : State) (d : Done) (b : Bool) 
 follow-by m go st (leaves cells rs) true q = rw (q, onward) refl
 follow-by m go st (leaves cells rs) false q = rw (q, onward) refl
 follow-by m go st (faults n) b q = refl
-
--- ---- an end
-end-class : (c : Class) → kind c ≡ kind-end → c ≡ end
-end-class binary p = absurd (omega arith)
-end-class trace p = absurd (omega arith)
-end-class tracenz p = absurd (omega arith)
-end-class unary p = absurd (omega arith)
-end-class (ref n) p = absurd (omega arith)
-end-class (trace-quick n) p = absurd (omega arith)
-end-class ext p = absurd (omega arith)
-end-class zero-ext p = absurd (omega arith)
-end-class setv p = absurd (omega arith)
-end-class if-goto p = absurd (omega arith)
-end-class goto p = absurd (omega arith)
-end-class (constant n) p = absurd (omega arith)
-end-class reg p = absurd (omega arith)
-end-class getv p = absurd (omega arith)
-end-class tracev p = absurd (omega arith)
-end-class end p = refl
-end-class dup p = absurd (omega arith)
-end-class pop p = absurd (omega arith)
-end-class swap p = absurd (omega arith)
-end-class pick p = absurd (omega arith)
-end-class rot p = absurd (omega arith)
-end-class unsupported p = absurd (omega arith)
-end-class unknown p = absurd (omega arith)
-
--- the instruction at an end needs room for the trailer
-end-done : (m : Fed) (k : ℕ) (s v : List ℕ) (free : ℕ) → kindAt (m .expression) k ≡ kind-end → done m k s v free ≡ endDone free
-unfolding done
-end-done m k s v free h = rw (end-class (classAt (m .expression) k) h) refl
-
-end-fits : (b : Bool) {cells : List ℕ} {rs : List Record} → cond b (leaves [] []) (faults 21) ≡ leaves cells rs → b ≡ true
-end-fits true p = refl
-end-fits false p = absurd (let z : _≡_ {A = ℕ} 0 1 = cc in omega arith)
-
-end-room : {free : ℕ} {cells : List ℕ} {rs : List Record} → endDone free ≡ leaves cells rs → trailerSize ≤ free
-unfolding endDone
-end-room {free} p = leb-true trailerSize free (end-fits (leb trailerSize free) p)
 
 -- what the code holds: variables v, buffer b, cells and height s, offset k, the end p of what is written, and n steps
 pub record Loop (m : Fed) (b₀ : List ℕ) (u : ℕ) (g : List ℕ) (max : ℕ) (vars v b : List ℕ) (s : Stack) (k p n : ℕ) : Type 0 where

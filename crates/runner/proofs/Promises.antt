@@ -45,3 +45,7 @@ module _ (m : Fed) (t : ℕ) (v b : List ℕ) (u allowance : ℕ) {r : Outcome} 
   pub completed-leaves : (a : Value) {s w : ℕ} → r ≡ Completed a s w
       → (w ≡ u + length (encodeFrame t (recordsOf (ended m v b u allowance)))) × (b′ ≡ writtenAt b u (encodeFrame t (recordsOf (ended m v b u allowance))))
   completed-leaves = reporting.completed-leaves m t v b u allowance ran
+
+  -- which had room in a buffer of an allowed size
+  pub completed-fits : (a : Value) {s w : ℕ} → r ≡ Completed a s w → (u + length (encodeFrame t (recordsOf (ended m v b u allowance))) ≤ length b) × (length b ≤ 65536)
+  completed-fits = reporting.completed-fits m t v b u allowance ran

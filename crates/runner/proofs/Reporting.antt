@@ -7,6 +7,7 @@ use lib.ListN.{length}
 use Rattle.encoding.specs.Written.{writtenAt}
 use Rattle.frames.specs.Record.{encodeAll}
 use Rattle.frames.specs.Frame.{encodeFrame}
+use Rattle.frames.proofs.Promises.{frame-length}
 use Rattle.verifier.specs.Verdict.{accepted, verdict}
 use Rattle.machine.specs.Fed.{Fed}
 use Rattle.machine.specs.Machine.{Ended, completed, stopped}
@@ -42,6 +43,14 @@ unfolding returned usedOf bufferOf leftBytes recordsOf encodeFrame
 completed-by t b u a (completed x k v rs) p = (cc, refl)
 completed-by t b u a (stopped x k s rs) p = absurd (let z : _≡_ {A = ℕ} 0 1 = cc in omega arith)
 
+fits-by : (m : Fed) (t : ℕ) (v b : List ℕ) (u allowance : ℕ) (a : Value) {s w : ℕ} (o : Ended) → ended m v b u allowance ≡ o → returnedBy (Completed a s w) ≡ returned t u o
+    → (u + length (encodeFrame t (recordsOf o)) ≤ length b) × (length b ≤ 65536)
+unfolding returned recordsOf
+fits-by m t v b u allowance a (completed x k z rs) e p =
+    let w = machine.completed-fits m v b u allowance x z rs e in
+    (omega (arith, w .0, frame-length t rs), w .1)
+fits-by m t v b u allowance a (stopped x k s rs) e p = absurd (let z : _≡_ {A = ℕ} 0 1 = cc in omega arith)
+
 module _ (m : Fed) (t : ℕ) (v b : List ℕ) (u allowance : ℕ) {r : Outcome} {v′ b′ : List ℕ} (ran : Ran t v b u (ended m v b u allowance) r v′ b′) where
   pub steps-machine : stepsReported r ≡ stepsOf (ended m v b u allowance)
   steps-machine = steps-by t u r (ended m v b u allowance) (ran .answer)
@@ -65,3 +74,6 @@ module _ (m : Fed) (t : ℕ) (v b : List ℕ) (u allowance : ℕ) {r : Outcome} 
   completed-leaves a q =
       let e = completed-by t b u a (ended m v b u allowance) (ap returnedBy (sym q) ∙ ran .answer) in
       (e .0, ran .buffer ∙ e .1)
+
+  pub completed-fits : (a : Value) {s w : ℕ} → r ≡ Completed a s w → (u + length (encodeFrame t (recordsOf (ended m v b u allowance))) ≤ length b) × (length b ≤ 65536)
+  completed-fits a q = fits-by m t v b u allowance a (ended m v b u allowance) refl (ap returnedBy (sym q) ∙ ran .answer)
