@@ -76,13 +76,13 @@ module _ {M : Type 1} where
 
 -- "Each refusal has one number from document 01's table."
 pub verify-number : (e : List ℕ) {r k : ℕ} → verdict e ≡ refused r k → T (verifierNumber r)
-verify-number = numbers.verdict-number
+verify-number e {r} p = numbers.between-in 1 11 r (verifying.refused-number e p)
 
 pub fetch-number : (f : ℕ) (image : List ℕ) (g : ℕ) (work : List ℕ) (a k : ℕ) → fetchRefusal f image g work a k ≢ 0 → T (fetchNumber (fetchRefusal f image g work a k))
 fetch-number = numbers.fetch-number
 
 pub run-number : (m : Fed) (v b : List ℕ) (u allowance : ℕ) {r k n : ℕ} (rs : List Record) → ended m v b u allowance ≡ stopped r k n rs → T (runNumber r)
-run-number = numbers.run-number
+run-number m v b u allowance {r} rs p = numbers.between-in 1 21 r (machine.stopped-number m v b u allowance p)
 
 pub read-number : (l : List ℕ) (used number i : ℕ) {r k : ℕ} → reading l used number i ≡ refusedRead r k → T (readerNumber r)
 read-number = numbers.read-number

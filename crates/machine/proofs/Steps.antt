@@ -14,13 +14,18 @@ use Rattle.isa.specs.Decode.{kindAt}
 use Rattle.frames.specs.Record.{Record, encodeAll}
 use Rattle.verifier.specs.Verdict.{Verdict, accepted, refused, verdict}
 use Rattle.verifier.specs.Acceptance.{Accepted}
-use Rattle.verifier.proofs.Promises.{accepted-means}
+use Rattle.verifier.proofs.Promises.{accepted-means, refused-number}
 use Rattle.machine.specs.Fed.{Fed, State, begin}
 use Rattle.machine.specs.Meaning.{Done, leaves, faults, done}
 use Rattle.machine.specs.Machine.{Ended, completed, stopped, answer, moved, onward, moves}
 use Rattle.machine.specs.Run.{inputTests, inputRefusal, afterVerdict, ended, stepsOf, numberOf}
 use Rattle.machine.proofs.Cells.{by-test}
 use Rattle.machine.proofs.Following.{OnWalk, walk-begins, steps-short, walk-moves, walk-faults}
+
+-- ---- the number of a refusal is one of 1 to 21
+abbrev NumberedEnd : Ended → Type 0
+NumberedEnd (completed a n v rs) = Unit {0}
+NumberedEnd (stopped r k n rs) = (1 ≤ r) × (r ≤ 21)
 
 -- ---- one move
 module _ (m : Fed) (go : State → Ended) (st : State) (P : Ended → Type 0) where
@@ -70,6 +75,15 @@ module _ (m : Fed) (room : ℕ) where
         (λ _ _ _ _. omega arith) (λ cells rs p h. moves-enough left (moved m st cells rs) (walk-moves m a w (st .variables) free p h) (omega arith))
         (λ n p. omega (arith, walk-faults m a w (st .variables) free p))
 
+    moves-numbered : (left : ℕ) (st : State) → OnWalk (m .expression) (st .offset) (st .stack) (st .steps) → NumberedEnd (moves m room left st)
+    unfolding moves
+    moves-numbered zero st w = (omega arith, omega arith)
+    moves-numbered (suc left) st w =
+        let free = room - length (encodeAll (st .records)) in
+        onward-by m (moves m room left) st NumberedEnd (done m (st .offset) (st .stack) (st .variables) free)
+        (λ _ _ _ _. tt) (λ cells rs p h. moves-numbered left (moved m st cells rs) (walk-moves m a w (st .variables) free p h))
+        (λ n p. let x = walk-faults m a w (st .variables) free p in (omega (arith, x), x .1))
+
 -- ---- whole runs
 module _ (m : Fed) (v buffer : List ℕ) (used allowance : ℕ) where
   -- a refused expression and refused inputs end the run before it steps; else it steps from the beginning
@@ -117,3 +131,17 @@ module _ (m : Fed) (v buffer : List ℕ) (used allowance : ℕ) where
         rw p (by-test (λ o. numberOf o ≢ 16) (eqb (inputRefusal m buffer used) 0) _ _
         (λ _. let a = accepted-means (m .expression) p in moves-enough m (length buffer - used) a allowance (begin v) (walk-begins a) (omega arith))
         (λ _. omega (arith, refusal-low)))
+
+  after-numbered : (x : Verdict) → verdict (m .expression) ≡ x → NumberedEnd (afterVerdict m v buffer used allowance x)
+  after-numbered (accepted n g l) p =
+      by-test NumberedEnd (eqb (inputRefusal m buffer used) 0) (moves m (length buffer - used) allowance (begin v)) (stopped (inputRefusal m buffer used) 0 0 [])
+      (λ _. let a = accepted-means (m .expression) p in moves-numbered m (length buffer - used) a allowance (begin v) (walk-begins a))
+      (λ t. (omega (arith, eqb-false (inputRefusal m buffer used) 0 t), omega (arith, refusal-low)))
+  after-numbered (refused r k) p = let x = refused-number (m .expression) p in (x .0, omega (arith, x))
+
+  ended-numbered : NumberedEnd (ended m v buffer used allowance)
+  unfolding ended
+  ended-numbered = after-numbered (verdict (m .expression)) refl
+
+  pub stopped-number : {r k n : ℕ} {rs : List Record} → ended m v buffer used allowance ≡ stopped r k n rs → (1 ≤ r) × (r ≤ 21)
+  stopped-number p = rw p at ended-numbered

@@ -8,13 +8,19 @@ use Prim.Native.Nat.{ℕ, _+_, _-_, _≤_, _<_, _^_}
 use lib.Dec.{leb}
 use lib.ListN.{length, take, getD}
 use Rattle.memory.specs.Spans.{InSpan, shareAddress, spansRefusal, FineSpans}
-use Rattle.memory.specs.Fetch.{readable, fetchRefusal, fetched, targetByte, restOf, Readable, PartOf}
+use Rattle.memory.specs.Fetch.{holdsRange, readable, fetchRefusal, fetched, targetByte, restOf, Readable, PartOf}
 use Rattle.memory.specs.FirstZero.{searched, FirstZero, NoneInSize, EndedBefore, Says}
 use Rattle.memory.specs.declared.Search.{Search}
 use Rattle.memory.specs.declared.Search.the-variants.{Found, Reached, Ended}
+use Rattle.memory.proofs.Testing as testing
 use Rattle.memory.proofs.Spanning as spanning
 use Rattle.memory.proofs.Fetching as fetching
 use Rattle.memory.proofs.Searching as searching
+
+-- ---- one span
+-- a span of n bytes at f that holds a range begins no later and ends no earlier
+pub holds-means : (f n a k : ℕ) → holdsRange f n a k ≡ true → (f ≤ a) × (a + k ≤ f + n)
+holds-means = testing.holds-true
 
 -- ---- refusals 12 and 13
 -- the test for a shared address holds exactly if some address lies in both spans

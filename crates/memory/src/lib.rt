@@ -56,7 +56,7 @@ pub fn spans_refusal(image_first: u64, image: &[u8], work_first: u64, work: &[u8
 }
 
 // Whether all of the `size` bytes at `address` lie in the span of `len` bytes at `first`.
-fn holds_range(first: u64, len: u64, address: u64, size: u64) -> bool
+pub fn holds_range(first: u64, len: u64, address: u64, size: u64) -> bool
     ensures { λ r. ⌜ r ≡ holdsRange first len address size ⌝ }
 {
     if address < first {

@@ -9,4 +9,5 @@ pub mod Sound
 pub mod Complete
 pub mod Endings
 pub mod Meaning
+pub mod Numbers
 pub mod Promises

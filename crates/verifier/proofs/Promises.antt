@@ -9,6 +9,7 @@ use Rattle.isa.proofs.Promises.{start-zero, walk-on}
 use Rattle.verifier.specs.Pass3.{heaviest}
 use Rattle.verifier.specs.Verdict.{accepted, refused, verdict}
 use Rattle.verifier.specs.Acceptance.{WalksFit, Acceptable, Heaviest, Accepted, Ready, Broken, Means}
+use Rattle.verifier.proofs.Numbers as numbers
 use Rattle.verifier.proofs.Endings.{follows}
 use Rattle.verifier.proofs.Meaning.{verdict-means, fits-accepted, fits-heaviest, late-broken, walk-ready}
 
@@ -31,6 +32,10 @@ module _ (e : List ℕ) where
   -- V3. A refusal from 8 to 11 at k is shown by a walk, or two, and none of 8 to 11 is met at a lower instruction.
   pub refused-means : {r k : ℕ} → verdict e ≡ refused r k → 8 ≤ r → Broken e k r × WalksFit e k
   refused-means p h = late-broken e h (rw p at means)
+
+  -- The number of a refusal is one of 1 to 11.
+  pub refused-number : {r k : ℕ} → verdict e ≡ refused r k → (1 ≤ r) × (r ≤ 11)
+  refused-number = numbers.refused-number e
 
   -- V5 over any weight f of the instructions: `heaviest f e` is the weight of some walk to an end, and none weighs more.
   pub weighted : (f : ℕ → ℕ) → Acceptable e → Heaviest f e (heaviest f e)

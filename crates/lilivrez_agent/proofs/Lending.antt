@@ -1,0 +1,64 @@
+-- Where a fetch finds its bytes, and that they are the bytes lent.
+use mathlib.Core.Bool.{Bool, true, false, cond, _&&_}
+use mathlib.Core.List.{List, [], _∷_}
+use mathlib.Core.Logic.{_≢_}
+use mathlib.Core.Path.{_≡_, refl, sym, _∙_}
+use Prim.Native.Nat.{ℕ, _+_, _-_, _≤_, _<_}
+use native.Mathlib.Omega.{arith}
+use lib.ListN.{length, take, drop}
+use lib.Dec.{ltb}
+use borrow.Author.Tests.{eq-eqb, ne-eqb, lt-ltb, le-ltb}
+use Rattle.memory.specs.Fetch.{holdsRange, readable, whichever, fetchRefusal, fetched}
+use Rattle.memory.proofs.Promises.{holds-means, fetch-0, readable-means}
+use Rattle.lilivrez_agent.specs.Lent.{spanOf, lentAt}
+
+none-of : (t : Bool) (x : ℕ × ℕ) → cond (t && false) x (0, 0) ≡ (0, 0)
+none-of true x = refl
+none-of false x = refl
+
+by-test : (t : Bool) {X : Type 0} → (t ≡ true → X) → (t ≡ false → X) → X
+by-test true x y = x refl
+by-test false x y = y refl
+
+module _ (f : ℕ) (image : List ℕ) (g : ℕ) (work : List ℕ) (a k : ℕ) where
+  pub lent-refused : fetchRefusal f image g work a k ≢ 0 → lentAt f image g work a k ≡ (0, 0)
+  unfolding lentAt
+  lent-refused n = rw (ne-eqb (fetchRefusal f image g work a k) 0 n) (none-of (ltb 0 k) _)
+
+  pub lent-empty : k ≡ 0 → lentAt f image g work a k ≡ (0, 0)
+  unfolding lentAt
+  lent-empty e = rw (le-ltb 0 k (omega arith))
+
+  module _ (z : fetchRefusal f image g work a k ≡ 0) (s : 1 ≤ k) where
+    pub lent-image : holdsRange f (length image) a k ≡ true → lentAt f image g work a k ≡ (1, a - f)
+    unfolding lentAt
+    lent-image h = rw (lt-ltb 0 k s, eq-eqb (fetchRefusal f image g work a k) 0 z, h)
+
+    pub lent-work : holdsRange f (length image) a k ≡ false → lentAt f image g work a k ≡ (2, a - g)
+    unfolding lentAt
+    lent-work h = rw (lt-ltb 0 k s, eq-eqb (fetchRefusal f image g work a k) 0 z, h)
+
+    -- where the image does not hold the range, the working memory does
+    other-holds : holdsRange f (length image) a k ≡ false → holdsRange g (length work) a k ≡ true
+    unfolding readable
+    other-holds h = rw h at (readable-means f image g work a k s .1 (fetch-0 f image g work a k .0 z .1 s))
+
+    pub work-before : holdsRange f (length image) a k ≡ false → g ≤ a
+    work-before h = holds-means g (length work) a k (other-holds h) .0
+
+    fetched-by : fetched f image g work a k ≡ whichever f image g work a k (λ first bytes. take k (drop (a - first) bytes)) []
+    unfolding fetched
+    fetched-by = rw (eq-eqb (fetchRefusal f image g work a k) 0 z)
+
+    -- what is so of the two cases is so
+    by-span : {X : Type 0} → (holdsRange f (length image) a k ≡ true → X) → (holdsRange f (length image) a k ≡ false → X) → X
+    by-span = by-test (holdsRange f (length image) a k)
+
+    pub lent-bytes : fetched f image g work a k ≡ take k (drop (lentAt f image g work a k .1) (spanOf image work (lentAt f image g work a k .0)))
+    lent-bytes =
+        by-span (λ h. rw (lent-image h) (fetched-by ∙ rw h)) (λ h. rw (lent-work h) (fetched-by ∙ rw (h, other-holds h)))
+
+    pub lent-within : lentAt f image g work a k .1 + k ≤ length (spanOf image work (lentAt f image g work a k .0))
+    lent-within =
+        by-span (λ h. rw (lent-image h) (omega (arith, holds-means f (length image) a k h)))
+        (λ h. rw (lent-work h) (omega (arith, holds-means g (length work) a k (other-holds h))))

@@ -1,0 +1,136 @@
+// The agent as a static library, for C and Rust: include/lilivrez_agent.h says how it is called.
+ghost use mathlib.Core.Path.{_≡_};
+ghost use Prim.Native.Nat.{ℕ};
+ghost use Rattle.machine.specs.Fed.{fed};
+ghost use Rattle.machine.specs.Machine.{Ended};
+ghost use Rattle.machine.specs.Run.{ended, defaultAllowance};
+ghost use Rattle.runner.specs.Returned.{returned, returnedBy};
+ghost use Rattle.memory.specs.Fetch.{fetchRefusal};
+ghost use Rattle.lilivrez_agent.specs.Lent.{lentAt, stored};
+ghost use Rattle.lilivrez_agent.specs.Told.{Told, ToldRun};
+use runner::Outcome;
+use runner::Value;
+
+// ---- target memory
+
+// Where the `size` bytes at `address` are. Returns the number of the refusal, or 0. Stores the number of the span that lends them (0 none, 1 program image,
+// 2 working memory) and the place of the first of them in that span.
+#[no_mangle]
+pub extern "C" fn lilivrez_fetch(
+    image_first: u64,
+    image: &[u8],
+    work_first: u64,
+    work: &[u8],
+    address: u64,
+    size: u64,
+    out: &mut [u64; 2],
+) -> u32
+    ensures number { λ r. ⌜ r ≡ fetchRefusal «image_first» (now (image .entry)) «work_first» (now (work .entry)) address size ⌝ }
+    ensures values { λ _. ⌜ now (out .exit) ≡ stored (lentAt «image_first» (now (image .entry)) «work_first» (now (work .entry)) address size) ⌝ }
+{
+    *out = [0, 0];
+    let number = memory::fetch_refusal(image_first, image, work_first, work, address, size);
+    if number != 0 {
+        return number as u32;
+    }
+    if size == 0 {
+        return 0;
+    }
+    if memory::holds_range(image_first, image.len() as u64, address, size) {
+        *out = [1, address - image_first];
+        return 0;
+    }
+    *out = [2, address - work_first];
+    0
+}
+
+// ---- runs
+
+// An outcome as numbers. `used` is the used length given: a refusal leaves it as it is.
+fn tell(outcome: Outcome, used: usize, out: &mut [u64; 6]) -> u32
+    ensures { λ r. ⌜ ((t : ℕ) (o : Ended) → returnedBy outcome ≡ returned t used o → Told t used o r (now (out .exit))) ⌝ }
+{
+    match outcome {
+        Outcome::Refused(number, offset, steps) => {
+            *out = [offset as u64, steps, used as u64, 0, 0, 0];
+            number as u32
+        }
+        Outcome::Completed(value, steps, length) => {
+            match value {
+                Value::Nothing => *out = [0, steps, length as u64, 0, 0, 0],
+                Value::Top(top) => *out = [0, steps, length as u64, 1, top, 0],
+                Value::TopAndBeneath(top, beneath) => {
+                    *out = [0, steps, length as u64, 2, top, beneath]
+                }
+            }
+            0
+        }
+    }
+}
+
+// Verifies the expression, checks the inputs, and runs it: at most `allowance` instructions. Returns the number of the refusal, or 0 where the run completed.
+// Stores the offset of the refusal, the steps, the used length, how many cells the answer tells, the top and the cell beneath.
+#[no_mangle]
+pub extern "C" fn lilivrez_run<'a>(
+    expression: &[u8],
+    registers: &[u64],
+    image_first: u64,
+    image: &'a [u8],
+    work_first: u64,
+    work: &'a [u8],
+    variables: &mut [u64; 64],
+    buffer: &mut [u8],
+    used: usize,
+    tracepoint: u16,
+    allowance: u64,
+    out: &mut [u64; 6],
+) -> u32
+    ensures { λ r. ⌜ ToldRun tracepoint (now (variables .entry)) (now (buffer .entry)) used (ended (fed (now (expression .entry)) (now (registers .entry)) «image_first» (now (image .entry)) «work_first» (now (work .entry))) (now (variables .entry)) (now (buffer .entry)) used allowance) r (now (out .exit)) (now (variables .exit)) (now (buffer .exit)) ⌝ }
+{
+    let outcome = runner::run(
+        expression,
+        registers,
+        image_first,
+        image,
+        work_first,
+        work,
+        variables,
+        buffer,
+        used,
+        tracepoint,
+        allowance,
+    );
+    tell(outcome, used, out)
+}
+
+// The same without an allowance given: at most 1,024 instructions.
+#[no_mangle]
+pub extern "C" fn lilivrez_run_default<'a>(
+    expression: &[u8],
+    registers: &[u64],
+    image_first: u64,
+    image: &'a [u8],
+    work_first: u64,
+    work: &'a [u8],
+    variables: &mut [u64; 64],
+    buffer: &mut [u8],
+    used: usize,
+    tracepoint: u16,
+    out: &mut [u64; 6],
+) -> u32
+    ensures { λ r. ⌜ ToldRun tracepoint (now (variables .entry)) (now (buffer .entry)) used (ended (fed (now (expression .entry)) (now (registers .entry)) «image_first» (now (image .entry)) «work_first» (now (work .entry))) (now (variables .entry)) (now (buffer .entry)) used defaultAllowance) r (now (out .exit)) (now (variables .exit)) (now (buffer .exit)) ⌝ }
+{
+    let outcome = runner::run_default(
+        expression,
+        registers,
+        image_first,
+        image,
+        work_first,
+        work,
+        variables,
+        buffer,
+        used,
+        tracepoint,
+    );
+    tell(outcome, used, out)
+}

@@ -1,0 +1,45 @@
+use mathlib.Core.Path.{sym, ap, _∙_}
+use borrow.Author.Needs.{needs}
+use Rattle.verifier.specs.Verdict.{verdictOf}
+use Rattle.lilivrez_verifier.specs.Told.{numberOf, valuesOf}
+use Rattle.lilivrez_verifier.proofs.lilivrez_verify.Statement.{statement}
+use Rattle.lilivrez_verifier.proofs.lilivrez_verify.Tie as tie
+
+verify-requires : tie.Need-verify-requires
+verify-requires c κs = search needs
+
+enum-known-number : tie.Need-enum-known-number
+enum-known-number c = search needs
+
+cast-result : tie.Need-cast-result
+cast-result c = search needs
+
+enum-known-count : tie.Need-enum-known-count
+enum-known-count c = search needs
+
+cast-height : tie.Need-cast-height
+cast-height c = search needs
+
+returns : tie.Need-returns
+unfolding numberOf valuesOf
+returns c =
+    let q = sym (ap verdictOf (c .before .before .number .given .1)) ∙ c .before .before .before .before .verify .ensures in
+    (ap numberOf q, ap valuesOf q)
+
+returns-2 : tie.Need-returns-2
+unfolding numberOf valuesOf
+returns-2 c =
+    let q = sym (ap verdictOf (c .before .before .count .given .1)) ∙ c .before .before .before .before .verify .ensures in
+    (ap numberOf q, ap valuesOf q)
+
+pub lilivrez-verify-spec : {M : Type 1} → statement M
+lilivrez-verify-spec =
+    tie.close
+    (tie.spec
+    verify-requires
+    enum-known-number
+    cast-result
+    enum-known-count
+    cast-height
+    returns
+    returns-2)

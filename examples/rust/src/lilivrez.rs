@@ -1,0 +1,323 @@
+//! Safe wrappers over the static libraries. What the functions promise is said in include/lilivrez_verifier.h and
+//! include/lilivrez_agent.h; what a caller owes there (good pointers, no overlap) Rust's slices and arrays give.
+use std::fmt;
+
+/// Why something was refused: the numbers of document 01.
+#[repr(u32)]
+#[derive(Clone, Copy, Debug, PartialEq, Eq)]
+pub enum Refusal {
+    ExpressionSize = 1,
+    OpcodeUnknown,
+    OpcodeUnsupported,
+    OperandsCut,
+    OperandBad,
+    JumpNoStart,
+    JumpNotForward,
+    HeightsDiffer,
+    CellsTooFew,
+    CellsTooMany,
+    RunsOff,
+    SpanPastEnd,
+    SpansShare,
+    RegistersMany,
+    BufferBad,
+    AllowanceSpent,
+    DivisorZero,
+    RegisterNotLent,
+    RangeNotReadable,
+    RecordSize,
+    BufferFull,
+    TrailerBroken,
+    RecordBroken,
+    NoSuchFrame,
+    NoSuchRecord,
+}
+
+use Refusal::*;
+
+/// Each refusal, in the order of its number.
+const REFUSALS: [Refusal; 25] = [
+    ExpressionSize,
+    OpcodeUnknown,
+    OpcodeUnsupported,
+    OperandsCut,
+    OperandBad,
+    JumpNoStart,
+    JumpNotForward,
+    HeightsDiffer,
+    CellsTooFew,
+    CellsTooMany,
+    RunsOff,
+    SpanPastEnd,
+    SpansShare,
+    RegistersMany,
+    BufferBad,
+    AllowanceSpent,
+    DivisorZero,
+    RegisterNotLent,
+    RangeNotReadable,
+    RecordSize,
+    BufferFull,
+    TrailerBroken,
+    RecordBroken,
+    NoSuchFrame,
+    NoSuchRecord,
+];
+
+/// Words for a person, in the same order.
+const WORDS: [&str; 25] = [
+    "the expression has no bytes, or more than 1024",
+    "unknown instruction",
+    "this instruction is not supported",
+    "the expression ends inside this instruction",
+    "ext 0, or a variable number above 63",
+    "the jump is not to the start of an instruction",
+    "the jump is not forward",
+    "paths meet here with different stack heights",
+    "too few cells on the stack for this instruction",
+    "more than 64 cells on the stack",
+    "the bytes run out before an end instruction",
+    "a memory span reaches past the last address",
+    "the two memory spans overlap",
+    "more than 256 registers",
+    "trace buffer too large, or used past its end",
+    "the allowed number of steps is used up",
+    "division by zero",
+    "no register with this number",
+    "the memory range cannot be read as a whole",
+    "more than 65535 bytes to record at once",
+    "too little room left in the trace buffer",
+    "the trailer of the frame is broken",
+    "a record of the frame is broken",
+    "there is no such frame",
+    "there is no such record in the frame",
+];
+
+impl Refusal {
+    pub fn number(self) -> u32 {
+        self as u32
+    }
+
+    /// The refusal that a function returned, or none where it returned 0.
+    fn from(number: u32) -> Option<Refusal> {
+        let at = (number as usize).checked_sub(1)?;
+        Some(REFUSALS[at])
+    }
+}
+
+impl fmt::Display for Refusal {
+    fn fmt(&self, f: &mut fmt::Formatter) -> fmt::Result {
+        f.write_str(WORDS[self.number() as usize - 1])
+    }
+}
+
+/// A slice is a pointer and a length there; a reference to an array is a pointer alone.
+mod library {
+    extern "C" {
+        pub fn lilivrez_verify(expression: *const u8, length: usize, out: *mut [u64; 4]) -> u32;
+
+        pub fn lilivrez_fetch(
+            image_first: u64,
+            image: *const u8,
+            image_length: usize,
+            work_first: u64,
+            work: *const u8,
+            work_length: usize,
+            address: u64,
+            size: u64,
+            out: *mut [u64; 2],
+        ) -> u32;
+
+        pub fn lilivrez_run(
+            expression: *const u8,
+            length: usize,
+            registers: *const u64,
+            register_count: usize,
+            image_first: u64,
+            image: *const u8,
+            image_length: usize,
+            work_first: u64,
+            work: *const u8,
+            work_length: usize,
+            variables: *mut [u64; 64],
+            buffer: *mut u8,
+            buffer_length: usize,
+            used: usize,
+            tracepoint: u16,
+            allowance: u64,
+            out: *mut [u64; 6],
+        ) -> u32;
+    }
+}
+
+// ---- verifying
+
+#[derive(Clone, Copy, Debug, PartialEq, Eq)]
+pub struct Accepted {
+    pub instructions: u64,
+    pub greatest_height: u64,
+    pub longest_walk: u64,
+}
+
+#[derive(Clone, Copy, Debug, PartialEq, Eq)]
+pub struct Refused {
+    pub refusal: Refusal,
+    pub offset: u64,
+}
+
+pub fn verify(expression: &[u8]) -> Result<Accepted, Refused> {
+    let mut out = [0; 4];
+    // SAFETY: pointer and length are of one slice, and `out` is borrowed by nobody else.
+    let number =
+        unsafe { library::lilivrez_verify(expression.as_ptr(), expression.len(), &mut out) };
+    let [offset, instructions, greatest_height, longest_walk] = out;
+    match Refusal::from(number) {
+        Some(refusal) => Err(Refused { refusal, offset }),
+        None => Ok(Accepted {
+            instructions,
+            greatest_height,
+            longest_walk,
+        }),
+    }
+}
+
+// ---- target memory
+
+/// Bytes of the target, and the address of the first.
+#[derive(Clone, Copy, Debug)]
+pub struct Span<'a> {
+    pub first: u64,
+    pub bytes: &'a [u8],
+}
+
+/// The `size` bytes at `address`, in whichever span holds them all.
+pub fn fetch<'a>(
+    image: Span<'a>,
+    work: Span<'a>,
+    address: u64,
+    size: u64,
+) -> Result<&'a [u8], Refusal> {
+    let mut out = [0; 2];
+    // SAFETY: each pointer and length are of one slice, and `out` is borrowed by nobody else.
+    let number = unsafe {
+        library::lilivrez_fetch(
+            image.first,
+            image.bytes.as_ptr(),
+            image.bytes.len(),
+            work.first,
+            work.bytes.as_ptr(),
+            work.bytes.len(),
+            address,
+            size,
+            &mut out,
+        )
+    };
+    if let Some(refusal) = Refusal::from(number) {
+        return Err(refusal);
+    }
+    let [span, index] = out;
+    let bytes = match span {
+        1 => image.bytes,
+        2 => work.bytes,
+        _ => return Ok(&[]),
+    };
+    Ok(&bytes[index as usize..][..size as usize])
+}
+
+// ---- running
+
+/// What a run reads.
+#[derive(Clone, Copy, Debug)]
+pub struct Target<'a> {
+    pub registers: &'a [u64],
+    pub image: Span<'a>,
+    pub work: Span<'a>,
+}
+
+/// The trace buffer: a completed run appends its frame and moves `used` on.
+#[derive(Debug)]
+pub struct TraceBuffer<'a> {
+    pub bytes: &'a mut [u8],
+    pub used: usize,
+}
+
+/// What is on top of the stack at the end.
+#[derive(Clone, Copy, Debug, PartialEq, Eq)]
+pub enum Value {
+    Nothing,
+    Top(u64),
+    TopAndBeneath(u64, u64),
+}
+
+#[derive(Clone, Copy, Debug, PartialEq, Eq)]
+pub struct Completed {
+    pub value: Value,
+    pub steps: u64,
+}
+
+#[derive(Clone, Copy, Debug, PartialEq, Eq)]
+pub struct Stopped {
+    pub refusal: Refusal,
+    pub offset: u64,
+    pub steps: u64,
+}
+
+/// The allowance of document 01 where none is given: enough for every accepted expression.
+pub const ALLOWANCE: u64 = 1024;
+
+/// Verifies the expression and runs it: at most `allowance` instructions.
+pub fn run(
+    expression: &[u8],
+    target: &Target,
+    variables: &mut [u64; 64],
+    buffer: &mut TraceBuffer,
+    tracepoint: u16,
+    allowance: u64,
+) -> Result<Completed, Stopped> {
+    let mut out = [0; 6];
+    // SAFETY: each pointer and length are of one slice; `variables`, the buffer and `out` are borrowed by nobody else.
+    let number = unsafe {
+        library::lilivrez_run(
+            expression.as_ptr(),
+            expression.len(),
+            target.registers.as_ptr(),
+            target.registers.len(),
+            target.image.first,
+            target.image.bytes.as_ptr(),
+            target.image.bytes.len(),
+            target.work.first,
+            target.work.bytes.as_ptr(),
+            target.work.bytes.len(),
+            variables,
+            buffer.bytes.as_mut_ptr(),
+            buffer.bytes.len(),
+            buffer.used,
+            tracepoint,
+            allowance,
+            &mut out,
+        )
+    };
+    let [offset, steps, used, cells, top, beneath] = out;
+    buffer.used = used as usize;
+    match Refusal::from(number) {
+        Some(refusal) => Err(Stopped {
+            refusal,
+            offset,
+            steps,
+        }),
+        None => Ok(Completed {
+            value: value_of(cells, top, beneath),
+            steps,
+        }),
+    }
+}
+
+fn value_of(cells: u64, top: u64, beneath: u64) -> Value {
+    match cells {
+        0 => Value::Nothing,
+        1 => Value::Top(top),
+        _ => Value::TopAndBeneath(top, beneath),
+    }
+}
+
+// ---- reading frames
