@@ -36,7 +36,7 @@ enum {
 
 /* The numbers that the functions return. The words are those of document 01's table. */
 enum lilivrez_refusal {
-    LILIVREZ_NOT_REFUSED = 0,                  /* accepted, completed, found */
+    LILIVREZ_NOT_REFUSED = 0,                  /* accepted, completed, found, read */
 
     /* of an expression */
     LILIVREZ_REFUSED_EXPRESSION_SIZE = 1,      /* 0 bytes, or more than 1,024 */

@@ -1,9 +1,10 @@
 /*
  * The C boundary of the static libraries: zero lengths with and without NULL, slices that end or begin beside memory that
  * faults (the sanitizers do not see inside the archives), random inputs. What is checked here needs no evaluator: every place
- * of `out`, what must stay as it was, the trailer.
+ * of `out`, what must stay as it was, the trailer, and that the three functions that read frames agree with each other.
  */
 #define _DEFAULT_SOURCE
+#include <inttypes.h>
 #include <stdio.h>
 #include <stdlib.h>
 #include <string.h>
@@ -15,7 +16,7 @@
 #define MOST (LILIVREZ_BUFFER_BYTES + 4096)
 #define REFUSALS 26
 
-static unsigned long met[REFUSALS];
+static unsigned long met[REFUSALS], met_reading[REFUSALS];
 
 #define CHECK(fact)                                                              \
     do {                                                                         \
@@ -293,6 +294,243 @@ static void check_fetch(void)
     }
 }
 
+/* ---- reading: frames that are known, then sometimes damaged */
+#define FRAMES 4
+#define RECORDS 4
+
+struct written {
+    size_t start, length, records;
+    uint16_t tracepoint;
+};
+
+struct trace {
+    uint8_t *buffer;
+    size_t length, used, count;
+    int is_whole;
+    struct written frames[FRAMES]; /* the oldest first */
+};
+
+static void put_number(uint8_t *p, uint64_t x, size_t n)
+{
+    for (size_t i = 0; i < n; i++)
+        p[i] = (uint8_t)(x >> 8 * i);
+}
+
+static uint64_t number_at(const uint8_t *p, size_t n)
+{
+    uint64_t x = 0;
+
+    for (size_t i = n; i > 0; i--)
+        x = x << 8 | p[i - 1];
+    return x;
+}
+
+static size_t put_record(uint8_t *p)
+{
+    size_t n = 1 + below(20);
+
+    if (below(2) == 0) {
+        p[0] = 0x56;
+        put_number(p + 1, below(64), 4);
+        put_number(p + 5, any(), 8);
+        return 13;
+    }
+    p[0] = 0x4d;
+    put_number(p + 1, any(), 8);
+    put_number(p + 9, n, 2);
+    make_bytes(p + 11, n);
+    return 11 + n;
+}
+
+static size_t put_frame(uint8_t *p, size_t at, struct written *w)
+{
+    w->start = at;
+    w->records = below(RECORDS + 1);
+    w->tracepoint = (uint16_t)any();
+    for (size_t i = 0; i < w->records; i++)
+        at += put_record(p + at);
+    w->length = at - w->start;
+    put_number(p + at, 0x46, 2);
+    put_number(p + at + 2, w->tracepoint, 2);
+    put_number(p + at + 4, w->length, 4);
+    return at + 8;
+}
+
+/* One wrong byte, a used length inside a frame, or one past the end. */
+static void damage(struct trace *t)
+{
+    if (below(8) == 0)
+        t->used = t->length + 1 + below(2) * (size_t)any();
+    else if (below(4) == 0)
+        t->used = below(t->used + 1);
+    else if (t->used > 0)
+        t->buffer[below(t->used)] = below(2) == 0 ? (uint8_t)any() : (uint8_t)below(4);
+    t->is_whole = 0;
+}
+
+static struct trace make_trace(void)
+{
+    uint8_t bytes[FRAMES * (RECORDS * 31 + 8)];
+    struct trace t = {.count = below(FRAMES + 1), .is_whole = 1};
+
+    for (size_t i = 0; i < t.count; i++)
+        t.used = put_frame(bytes, t.used, &t.frames[i]);
+    t.length = below(100) == 0 ? LILIVREZ_BUFFER_BYTES + below(2) : below(3) == 0 ? t.used : t.used + below(50);
+    t.is_whole = t.length <= LILIVREZ_BUFFER_BYTES;
+    t.buffer = slice(buffers, t.length);
+    make_bytes(t.buffer, t.length);
+    if (t.used > 0)
+        memcpy(t.buffer, bytes, t.used);
+    if (below(2) == 0)
+        damage(&t);
+    return t;
+}
+
+static void check_offset(const struct trace *t, uint32_t number, uint64_t offset)
+{
+    CHECK(number == 15 || (22 <= number && number <= 25));
+    CHECK((number == 15) == (t->length > LILIVREZ_BUFFER_BYTES || t->used > t->length));
+    if (number == LILIVREZ_REFUSED_BUFFER_BAD || number == LILIVREZ_REFUSED_NO_SUCH_FRAME)
+        CHECK(offset == 0);
+    else
+        CHECK(offset <= t->used);
+}
+
+static uint32_t check_walk(const struct trace *t, size_t place, uint64_t told[LILIVREZ_WALK_PLACES])
+{
+    uint64_t *out = slice(outs, LILIVREZ_WALK_PLACES * sizeof out[0]);
+
+    memset(out, 0xa5, LILIVREZ_WALK_PLACES * sizeof out[0]);
+    uint32_t number = lilivrez_walk(t->buffer, t->length, place, out);
+    memcpy(told, out, LILIVREZ_WALK_PLACES * sizeof out[0]);
+    if (number == LILIVREZ_NOT_REFUSED) {
+        CHECK(out[LILIVREZ_WALK_OFFSET] == 0 && out[LILIVREZ_WALK_NEXT] == out[LILIVREZ_WALK_START]);
+        CHECK(out[LILIVREZ_WALK_START] + out[LILIVREZ_WALK_LENGTH] + 8 == place);
+        CHECK(number_at(t->buffer + place - 8, 2) == 0x46 && number_at(t->buffer + place - 6, 2) == out[LILIVREZ_WALK_TRACEPOINT]);
+        CHECK(number_at(t->buffer + place - 4, 4) == out[LILIVREZ_WALK_LENGTH]);
+        return number;
+    }
+    check_offset(t, number, out[LILIVREZ_WALK_OFFSET]);
+    CHECK(number != LILIVREZ_REFUSED_RECORD_BROKEN && number != LILIVREZ_REFUSED_NO_SUCH_RECORD);
+    CHECK((number == LILIVREZ_REFUSED_NO_SUCH_FRAME) == (place == 0 && t->length <= LILIVREZ_BUFFER_BYTES));
+    CHECK(number != LILIVREZ_REFUSED_TRAILER_BROKEN || out[LILIVREZ_WALK_OFFSET] == place);
+    CHECK(out[LILIVREZ_WALK_TRACEPOINT] == 0 && out[LILIVREZ_WALK_START] == 0 && out[LILIVREZ_WALK_LENGTH] == 0);
+    CHECK(out[LILIVREZ_WALK_NEXT] == place);
+    return number;
+}
+
+static uint32_t check_count(const struct trace *t, uint64_t frame, uint64_t told[LILIVREZ_COUNT_PLACES])
+{
+    uint64_t *out = slice(outs, LILIVREZ_COUNT_PLACES * sizeof out[0]);
+
+    memset(out, 0xa5, LILIVREZ_COUNT_PLACES * sizeof out[0]);
+    uint32_t number = lilivrez_count(t->buffer, t->length, t->used, frame, out);
+    memcpy(told, out, LILIVREZ_COUNT_PLACES * sizeof out[0]);
+    if (number == LILIVREZ_NOT_REFUSED) {
+        CHECK(out[LILIVREZ_COUNT_OFFSET] == 0);
+        return number;
+    }
+    check_offset(t, number, out[LILIVREZ_COUNT_OFFSET]);
+    CHECK(number != LILIVREZ_REFUSED_NO_SUCH_RECORD);
+    for (size_t i = 1; i < LILIVREZ_COUNT_PLACES; i++)
+        CHECK(out[i] == 0);
+    return number;
+}
+
+static uint32_t check_read(const struct trace *t, uint64_t frame, uint64_t index, uint64_t told[LILIVREZ_READ_PLACES])
+{
+    uint64_t *out = slice(outs, LILIVREZ_READ_PLACES * sizeof out[0]);
+
+    memset(out, 0xa5, LILIVREZ_READ_PLACES * sizeof out[0]);
+    uint32_t number = lilivrez_read(t->buffer, t->length, t->used, frame, index, out);
+    memcpy(told, out, LILIVREZ_READ_PLACES * sizeof out[0]);
+    CHECK(number < REFUSALS);
+    met_reading[number]++;
+    if (number == LILIVREZ_NOT_REFUSED) {
+        CHECK(out[LILIVREZ_READ_OFFSET] == 0);
+        return number;
+    }
+    check_offset(t, number, out[LILIVREZ_READ_OFFSET]);
+    for (size_t i = 1; i < LILIVREZ_READ_PLACES; i++)
+        CHECK(out[i] == 0);
+    return number;
+}
+
+/* The records of a frame follow each other from its start to its trailer. `told` is what was stored of the frame's count. */
+static void check_records(const struct trace *t, uint64_t frame, const uint64_t told[LILIVREZ_COUNT_PLACES])
+{
+    uint64_t out[LILIVREZ_READ_PLACES];
+    size_t at = (size_t)told[LILIVREZ_COUNT_START], end = at + (size_t)told[LILIVREZ_COUNT_LENGTH];
+
+    for (uint64_t i = 0; i < told[LILIVREZ_COUNT_RECORDS]; i++) {
+        const uint8_t *p = t->buffer + at;
+        CHECK(check_read(t, frame, i, out) == LILIVREZ_NOT_REFUSED);
+        CHECK(out[LILIVREZ_READ_TRACEPOINT] == told[LILIVREZ_COUNT_TRACEPOINT]);
+        if (out[LILIVREZ_READ_KIND] == LILIVREZ_RECORD_MEMORY) {
+            CHECK(11 < end - at && p[0] == 0x4d && number_at(p + 1, 8) == out[LILIVREZ_READ_ADDRESS]);
+            CHECK(number_at(p + 9, 2) == out[LILIVREZ_READ_LENGTH] && out[LILIVREZ_READ_LENGTH] >= 1);
+            CHECK(out[LILIVREZ_READ_INDEX] == at + 11);
+            at += 11 + (size_t)out[LILIVREZ_READ_LENGTH];
+        } else {
+            CHECK(out[LILIVREZ_READ_KIND] == LILIVREZ_RECORD_VARIABLE && out[LILIVREZ_READ_INDEX] == 0);
+            CHECK(13 <= end - at && p[0] == 0x56 && number_at(p + 1, 4) == out[LILIVREZ_READ_VARIABLE]);
+            CHECK(out[LILIVREZ_READ_VARIABLE] < LILIVREZ_VARIABLES && number_at(p + 5, 8) == out[LILIVREZ_READ_VALUE]);
+            at += 13;
+        }
+        CHECK(at <= end);
+    }
+    CHECK(at == end);
+    CHECK(check_read(t, frame, told[LILIVREZ_COUNT_RECORDS] + below(2) * (any() >> 1), out) == LILIVREZ_REFUSED_NO_SUCH_RECORD);
+    CHECK(out[LILIVREZ_READ_OFFSET] == told[LILIVREZ_COUNT_START]);
+}
+
+/* Counting and reading agree with the step that found the frame: `step` is what it stored. */
+static void check_frame(const struct trace *t, uint64_t frame, const uint64_t step[LILIVREZ_WALK_PLACES])
+{
+    uint64_t told[LILIVREZ_COUNT_PLACES], out[LILIVREZ_READ_PLACES];
+    uint32_t number = check_count(t, frame, told);
+
+    if (number == LILIVREZ_REFUSED_RECORD_BROKEN) {
+        uint64_t offset = told[LILIVREZ_COUNT_OFFSET];
+        CHECK(step[LILIVREZ_WALK_START] <= offset && offset < step[LILIVREZ_WALK_START] + step[LILIVREZ_WALK_LENGTH]);
+        CHECK(check_read(t, frame, below(6), out) == number && out[LILIVREZ_READ_OFFSET] == offset);
+        return;
+    }
+    CHECK(number == LILIVREZ_NOT_REFUSED);
+    CHECK(told[LILIVREZ_COUNT_TRACEPOINT] == step[LILIVREZ_WALK_TRACEPOINT]);
+    CHECK(told[LILIVREZ_COUNT_START] == step[LILIVREZ_WALK_START] && told[LILIVREZ_COUNT_LENGTH] == step[LILIVREZ_WALK_LENGTH]);
+    check_records(t, frame, told);
+    if (t->is_whole) {
+        CHECK(frame < t->count);
+        const struct written *w = &t->frames[t->count - 1 - frame];
+        CHECK(told[LILIVREZ_COUNT_START] == w->start && told[LILIVREZ_COUNT_LENGTH] == w->length);
+        CHECK(told[LILIVREZ_COUNT_RECORDS] == w->records && told[LILIVREZ_COUNT_TRACEPOINT] == w->tracepoint);
+    }
+}
+
+/* Walks to the end. Every frame from there on is refused as the last step was. */
+static void check_frames(void)
+{
+    struct trace t = make_trace();
+    uint64_t step[LILIVREZ_WALK_PLACES], told[LILIVREZ_COUNT_PLACES], out[LILIVREZ_READ_PLACES], frame = 0;
+    size_t place = t.used;
+    uint32_t number;
+
+    if (t.length > 0)
+        memcpy(befores.first, t.buffer, t.length);
+    while ((number = check_walk(&t, place, step)) == LILIVREZ_NOT_REFUSED) {
+        check_frame(&t, frame, step);
+        place = (size_t)step[LILIVREZ_WALK_NEXT];
+        frame++;
+    }
+    if (t.is_whole)
+        CHECK(number == LILIVREZ_REFUSED_NO_SUCH_FRAME && frame == t.count);
+    frame += below(2) * (any() >> 1);
+    CHECK(check_count(&t, frame, told) == number && told[LILIVREZ_COUNT_OFFSET] == step[LILIVREZ_WALK_OFFSET]);
+    CHECK(check_read(&t, frame, any(), out) == number && out[LILIVREZ_READ_OFFSET] == step[LILIVREZ_WALK_OFFSET]);
+    CHECK(t.length == 0 || memcmp(t.buffer, befores.first, t.length) == 0);
+}
+
 /* ---- everything empty, and every pointer NULL that may be */
 static void check_empty(void)
 {
@@ -308,27 +546,52 @@ static void check_empty(void)
     CHECK(lilivrez_run_default(end, 1, NULL, 0, 0, NULL, 0, 0, NULL, 0, variables, NULL, 0, 1, 0, out) == LILIVREZ_REFUSED_BUFFER_BAD);
 }
 
+static void check_empty_buffer(void)
+{
+    uint64_t read[LILIVREZ_READ_PLACES], counted[LILIVREZ_COUNT_PLACES], step[LILIVREZ_WALK_PLACES];
+
+    CHECK(lilivrez_read(NULL, 0, 0, 0, 0, read) == LILIVREZ_REFUSED_NO_SUCH_FRAME);
+    CHECK(lilivrez_count(NULL, 0, 0, 0, counted) == LILIVREZ_REFUSED_NO_SUCH_FRAME);
+    CHECK(lilivrez_walk(NULL, 0, 0, step) == LILIVREZ_REFUSED_NO_SUCH_FRAME && step[LILIVREZ_WALK_NEXT] == 0);
+    CHECK(lilivrez_read(NULL, 0, 1, 0, 0, read) == LILIVREZ_REFUSED_BUFFER_BAD);
+    CHECK(lilivrez_count(NULL, 0, 1, 0, counted) == LILIVREZ_REFUSED_BUFFER_BAD);
+    CHECK(lilivrez_walk(NULL, 0, 1, step) == LILIVREZ_REFUSED_BUFFER_BAD && step[LILIVREZ_WALK_NEXT] == 1);
+}
+
+/* Prints how often each number was met; one that may be met and was not is a failure of this test. */
+static int report(const char *what, const unsigned long *counts, const uint32_t *numbers, size_t n)
+{
+    int is_met = 1;
+
+    printf("tests/boundary: %s by refusal:", what);
+    for (size_t i = 0; i < n; i++)
+        printf(" %" PRIu32 ":%lu", numbers[i], counts[numbers[i]]);
+    printf("\n");
+    for (size_t i = 0; i < n; i++) {
+        if (counts[numbers[i]] == 0) {
+            fprintf(stderr, "tests/boundary: %s: none with %" PRIu32 ": try more cases\n", what, numbers[i]);
+            is_met = 0;
+        }
+    }
+    return is_met;
+}
+
 int main(int count, char **words)
 {
     unsigned long cases = count > 1 ? strtoul(words[1], NULL, 10) : 100000;
+    static const uint32_t of_runs[] = {0, 1, 2, 3, 4, 5, 6, 7, 8, 9, 10, 11, 12, 13, 14, 15, 16, 17, 18, 19, 20, 21}, of_readings[] = {0, 15, 22, 23, 24, 25};
     struct room *rooms[] = {&expressions, &registers, &images, &works, &buffers, &befores, &arrays, &outs};
 
     for (size_t i = 0; i < sizeof rooms / sizeof rooms[0]; i++)
         *rooms[i] = new_room();
     check_empty();
+    check_empty_buffer();
     for (unsigned long i = 0; i < cases; i++) {
         check_runs();
         check_fetch();
+        check_frames();
     }
-    printf("tests/boundary: %lu runs and fetches as expected; runs by refusal:", cases);
-    for (size_t i = 0; i <= LILIVREZ_REFUSED_BUFFER_FULL; i++)
-        printf(" %zu:%lu", i, met[i]);
-    printf("\n");
-    for (size_t i = 0; i <= LILIVREZ_REFUSED_BUFFER_FULL; i++) {
-        if (met[i] == 0) {
-            fprintf(stderr, "tests/boundary: no run was refused with %zu: try more cases\n", i);
-            return 1;
-        }
-    }
-    return 0;
+    printf("tests/boundary: %lu cases of running, fetching and reading as expected\n", cases);
+    int is_met = report("runs", met, of_runs, sizeof of_runs / sizeof of_runs[0]);
+    return report("readings", met_reading, of_readings, sizeof of_readings / sizeof of_readings[0]) && is_met ? 0 : 1;
 }

@@ -9,6 +9,20 @@ const TRAILER_MARK: u8 = 0x46;
 /// The bytes of a trailer.
 const TRAILER: usize = 8;
 
+/// "Trace buffer: 0 to 65,536 lent bytes, with the length already used."
+const MOST_BUFFER: usize = 65_536;
+/// "buffer over 65,536 or used beyond its length".
+const UNFIT_BUFFER: u8 = 15;
+
+/// The used length of a buffer, or 15.
+pub fn used_within(buffer: &[u8], used: u64) -> Result<usize, u8> {
+    let used = usize::try_from(used).map_err(|_| UNFIT_BUFFER)?;
+    if buffer.len() > MOST_BUFFER || used > buffer.len() {
+        return Err(UNFIT_BUFFER);
+    }
+    Ok(used)
+}
+
 #[derive(Clone, Debug, PartialEq, Eq, PartialOrd, Ord)]
 pub enum Record {
     /// "Memory record: 4d, address (8 bytes), length (2), the bytes."

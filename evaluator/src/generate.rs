@@ -11,6 +11,7 @@ mod mutate;
 mod noise;
 mod operands;
 mod program;
+mod reader;
 pub mod runs;
 mod shapes;
 mod structured;
@@ -50,7 +51,7 @@ pub fn verifier_cases() -> Vec<Vec<u8>> {
     without_repeats(all.concat())
 }
 
-/// The cases of the vectors for words, memory and frames, each once.
+/// The cases of the vectors for words, memory, frames and their reader, each once.
 pub fn leaf_cases() -> Vec<Case> {
     let all = [
         words::cases(),
@@ -68,6 +69,7 @@ pub fn leaf_cases() -> Vec<Case> {
         frames::numbers(&mut family(31)),
         frames::cuts(&mut family(32)),
         many(&mut family(33), 150, frames::changed),
+        reader::cases(|number| family(60 + number)),
     ];
     without_repeats(all.concat())
 }

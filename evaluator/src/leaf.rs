@@ -1,6 +1,7 @@
-//! The cases of words, memory and frames, and what they come to, as lines of
-//! text: fields divided by single spaces, numbers in lower-case hex without
-//! leading zeros (an opcode has two digits), bytes in hex pairs or `-` for none.
+//! The cases of words, memory, frames and their reader, and what they come to,
+//! as lines of text: fields divided by single spaces, numbers in lower-case hex
+//! without leading zeros (an opcode has two digits), bytes in hex pairs or `-`
+//! for none.
 //!
 //! | case | outcome |
 //! |---|---|
@@ -11,12 +12,17 @@
 //! | `m ROOM ADDR BYTES` | `N PART`: N bytes were written; or `full PART` |
 //! | `v ROOM NUMBER VALUE` | the same |
 //! | `t ROOM TRACEPOINT LENGTH` | the same |
-//! | `d BYTES` | `m ADDR BYTES` and `v NUMBER VALUE` divided by `;`, or `none`, or `broken OFFSET` |
+//! | `d BYTES` | `m ADDR BYTES` and `v NUMBER VALUE` divided by `;`, or `none`, or `refused 17 OFFSET` |
+//!
+//! The kinds g, c, l and s are in reads.rs.
 
 use crate::frames::{self, Record, Trailer};
 use crate::hex;
 use crate::isa;
 use crate::memory::{Memory, Search, Span};
+use crate::reader;
+use crate::reads;
+use crate::verify::Refused;
 use crate::words;
 
 #[derive(Clone, Debug, PartialEq, Eq, PartialOrd, Ord)]
@@ -48,9 +54,11 @@ pub enum Case {
         room: usize,
         item: Item,
     },
+    /// The records of a frame that has just these bytes.
     Divide {
         bytes: Vec<u8>,
     },
+    Reader(reads::Case),
 }
 
 #[derive(Clone, Debug, PartialEq, Eq, PartialOrd, Ord)]
@@ -68,9 +76,10 @@ pub enum Answer {
     Full(Vec<u8>),
     Records(Vec<Record>),
     Broken(usize),
+    Reader(reads::Outcome),
 }
 
-/// An answer, or the number of a refusal.
+/// An answer, or the number of a refusal that has no offset here.
 pub type Outcome = Result<Answer, u8>;
 
 /// Every byte of a free part before something is written into it.
@@ -100,6 +109,7 @@ impl Case {
                 }
             },
             Case::Divide { bytes } => format!("d {}", hex::field(bytes)),
+            Case::Reader(case) => case.line(),
         }
     }
 
@@ -122,6 +132,7 @@ impl Case {
                 Ok(records) => Answer::Records(records),
                 Err(offset) => Answer::Broken(offset),
             },
+            Case::Reader(case) => Answer::Reader(case.evaluate()),
         })
     }
 }
@@ -190,8 +201,15 @@ pub fn line(outcome: &Outcome) -> String {
             let texts: Vec<String> = records.iter().map(record_text).collect();
             texts.join(";")
         }
-        Ok(Answer::Broken(offset)) => format!("broken {offset:x}"),
+        Ok(Answer::Broken(offset)) => reads::refusal(&broken(*offset)),
+        Ok(Answer::Reader(outcome)) => reads::line(outcome),
     }
+}
+
+/// 23 in a frame that begins at 0.
+fn broken(offset: usize) -> Refused {
+    let number = reader::BROKEN_RECORD;
+    Refused { number, offset }
 }
 
 fn record_text(record: &Record) -> String {
@@ -214,7 +232,8 @@ pub fn sort(outcome: &Outcome) -> String {
         Ok(Answer::Written(..)) => "written",
         Ok(Answer::Full(_)) => "full",
         Ok(Answer::Records(_)) => "records",
-        Ok(Answer::Broken(_)) => "broken",
+        Ok(Answer::Broken(offset)) => return reads::sort(&Err(broken(*offset))),
+        Ok(Answer::Reader(outcome)) => return reads::sort(outcome),
     };
     name.to_string()
 }
@@ -293,7 +312,7 @@ mod tests {
         expect(write(0), "v 0 a 1234", "full -");
         let divide = |text| Case::Divide { bytes: bytes(text) };
         expect(divide(""), "d -", "none");
-        expect(divide("4d00"), "d 4d00", "broken 0");
+        expect(divide("4d00"), "d 4d00", "refused 17 0");
         let two = "4d00100000000000000200410056030000000700000000000000";
         expect(divide(two), &format!("d {two}"), "m 1000 4100;v 3 7");
     }
@@ -312,6 +331,9 @@ mod tests {
                 "m" => "nnb",
                 "v" | "t" => "nnn",
                 "d" => "b",
+                "g" => "bnnnn",
+                "c" | "l" => "bnnn",
+                "s" => "bnn",
                 kind => panic!("no kind {kind}"),
             };
             assert_eq!(fields.len(), 1 + shapes.len(), "{line}");

@@ -11,15 +11,12 @@ use crate::words;
 
 /// "Registers: 0 to 256 lent numbers."
 const MOST_REGISTERS: usize = 256;
-/// "Trace buffer: 0 to 65,536 lent bytes."
-const MOST_BUFFER: usize = 65_536;
 /// "An entry without an allowance uses 1,024."
 const ALLOWANCE: u64 = 1_024;
 /// "record size above 65,535".
 const MOST_RECORDED: u64 = 65_535;
 
 const TOO_MANY_REGISTERS: u8 = 14;
-const BUFFER: u8 = 15;
 const ALLOWANCE_SPENT: u8 = 16;
 const NO_REGISTER: u8 = 18;
 const NOT_READABLE: u8 = 19;
@@ -101,10 +98,7 @@ fn before_stepping(given: &Given) -> Result<Memory<'_>, Refused> {
     if given.registers.len() > MOST_REGISTERS {
         return Err(refuse(TOO_MANY_REGISTERS));
     }
-    let length = given.buffer.len();
-    if length > MOST_BUFFER || given.used > length as u64 {
-        return Err(refuse(BUFFER));
-    }
+    frames::used_within(&given.buffer, given.used).map_err(refuse)?;
     Ok(memory)
 }
 

@@ -10,6 +10,8 @@ mod leaf;
 mod machine;
 mod memory;
 mod random;
+mod reader;
+mod reads;
 mod runs;
 mod vectors;
 mod verify;

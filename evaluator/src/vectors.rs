@@ -54,9 +54,8 @@ pub fn verifier() -> Vectors {
     vectors
 }
 
-/// Single operators, fetches, searches and records, and what they come to. What
-/// is written must read back as what it was. Divisions stay out: no program
-/// reads frames yet.
+/// Single operators, fetches, searches, records and frames to read, and what
+/// they come to. What is written must read back as what it was.
 pub fn leaf() -> Vectors {
     let mut vectors = Vectors {
         folder: "leaf_vectors",
@@ -64,8 +63,7 @@ pub fn leaf() -> Vectors {
         stdout: String::new(),
         note: String::new(),
     };
-    let mut cases = generate::leaf_cases();
-    cases.retain(|case| !matches!(case, leaf::Case::Divide { .. }));
+    let cases = generate::leaf_cases();
     for case in &cases {
         let outcome = case.evaluate();
         let line = case.line();
@@ -191,7 +189,7 @@ mod tests {
     fn sizes_are_as_asked() {
         for (vectors, most_lines, most_bytes) in [
             (verifier(), 6_000..=8_000, 1_500_000),
-            (leaf(), 4_000..=6_000, 1_000_000),
+            (leaf(), 8_000..=10_000, 3_000_000),
             (runs(), 4_000..=6_000, 1_500_000),
         ] {
             let lines = vectors.stdin.lines().count();

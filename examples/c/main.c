@@ -1,4 +1,4 @@
-/* A unit's firmware in small: verify expressions of a console, run them on two spans of memory, show what was collected. */
+/* A unit's firmware in small: verify expressions of a console, run them on two spans of memory, read back what was collected. */
 #include <inttypes.h>
 #include <stdio.h>
 
@@ -18,12 +18,22 @@ struct unit {
     size_t used;
 };
 
-static void print_bytes(const char *name, const uint8_t *bytes, size_t length)
+static void print_hex(const uint8_t *bytes, size_t length)
 {
-    printf("  %s:", name);
     for (size_t i = 0; i < length; i++)
         printf(" %02x", (unsigned)bytes[i]);
     printf("\n");
+}
+
+static void print_bytes(const char *name, const uint8_t *bytes, size_t length)
+{
+    printf("  %s:", name);
+    print_hex(bytes, length);
+}
+
+static void print_refusal(uint32_t number, uint64_t offset)
+{
+    printf("  refused %" PRIu32 " at offset %" PRIu64 ": %s\n", number, offset, lilivrez_refusal_words(number));
 }
 
 /* The console's part: lilivrez_verifier.h alone. */
@@ -34,7 +44,7 @@ static void verify(const char *what, const uint8_t *expression, size_t length)
 
     printf("verify %s\n", what);
     if (number != LILIVREZ_NOT_REFUSED)
-        printf("  refused %" PRIu32 " at offset %" PRIu64 ": %s\n", number, out[LILIVREZ_VERIFY_OFFSET], lilivrez_refusal_words(number));
+        print_refusal(number, out[LILIVREZ_VERIFY_OFFSET]);
     else
         printf("  accepted: %" PRIu64 " instructions, greatest height %" PRIu64 ", longest walk %" PRIu64 "\n", out[LILIVREZ_VERIFY_COUNT],
                out[LILIVREZ_VERIFY_HEIGHT], out[LILIVREZ_VERIFY_WALK]);
@@ -83,6 +93,53 @@ static void fetch(const struct unit *u, uint64_t address, uint64_t size)
         print_bytes("working memory", u->work + out[LILIVREZ_FETCH_INDEX], (size_t)size);
 }
 
+/* The bytes of a memory record stay in the trace buffer: the reading tells where. */
+static void print_record(const struct unit *u, uint64_t frame, uint64_t index)
+{
+    uint64_t out[LILIVREZ_READ_PLACES];
+    uint32_t number = lilivrez_read(u->buffer, sizeof u->buffer, u->used, frame, index, out);
+
+    if (number != LILIVREZ_NOT_REFUSED) {
+        print_refusal(number, out[LILIVREZ_READ_OFFSET]);
+    } else if (out[LILIVREZ_READ_KIND] == LILIVREZ_RECORD_MEMORY) {
+        printf("  memory at %" PRIu64 ":", out[LILIVREZ_READ_ADDRESS]);
+        print_hex(u->buffer + out[LILIVREZ_READ_INDEX], (size_t)out[LILIVREZ_READ_LENGTH]);
+    } else {
+        printf("  variable %" PRIu64 ": %" PRIu64 "\n", out[LILIVREZ_READ_VARIABLE], out[LILIVREZ_READ_VALUE]);
+    }
+}
+
+static void print_frame(const struct unit *u, uint64_t frame)
+{
+    uint64_t out[LILIVREZ_COUNT_PLACES];
+    uint32_t number = lilivrez_count(u->buffer, sizeof u->buffer, u->used, frame, out);
+
+    if (number != LILIVREZ_NOT_REFUSED) {
+        print_refusal(number, out[LILIVREZ_COUNT_OFFSET]);
+        return;
+    }
+    printf("  records %" PRIu64 "\n", out[LILIVREZ_COUNT_RECORDS]);
+    for (uint64_t i = 0; i < out[LILIVREZ_COUNT_RECORDS]; i++)
+        print_record(u, frame, i);
+}
+
+/* From the newest frame to the oldest. The walker is its place, and the walk ends with a refusal: 24 where no frame is broken. */
+static void print_frames(const struct unit *u)
+{
+    uint64_t out[LILIVREZ_WALK_PLACES];
+    size_t place = u->used;
+    uint32_t number;
+
+    for (uint64_t frame = 0; (number = lilivrez_walk(u->buffer, sizeof u->buffer, place, out)) == LILIVREZ_NOT_REFUSED; frame++) {
+        printf("frame %" PRIu64 ": tracepoint %" PRIu64 ", start %" PRIu64 ", length of the records %" PRIu64 "\n", frame,
+               out[LILIVREZ_WALK_TRACEPOINT], out[LILIVREZ_WALK_START], out[LILIVREZ_WALK_LENGTH]);
+        print_frame(u, frame);
+        place = (size_t)out[LILIVREZ_WALK_NEXT];
+    }
+    printf("walk on from %zu\n", place);
+    print_refusal(number, out[LILIVREZ_WALK_OFFSET]);
+}
+
 int main(void)
 {
     struct unit u = {
@@ -107,6 +164,10 @@ int main(void)
     run(&u, "count in variable 3", count, sizeof count);
     run(&u, "the word that register 1 points to", from_register, sizeof from_register);
     printf("variable 3 is %" PRIu64 ", %zu bytes of the trace buffer are used\n", u.variables[3], u.used);
+
+    print_frames(&u);
+    printf("read record 1 of frame 1\n");
+    print_record(&u, 1, 1);
 
     fetch(&u, 32769, 3);
     fetch(&u, 4098, 2);

@@ -1,17 +1,17 @@
 -- Results are words, and what follows from the definitions alone.
 use mathlib.Core.Bool.{Bool, true, false}
 use mathlib.Core.Path.{_≡_, refl}
-use Prim.Native.Nat.{ℕ, zero, suc, _-_, _*_, _/_, _%_, _^_, _<_, _≤_}
+use Prim.Native.Nat.{ℕ, _-_, _*_, _%_, _^_, _<_, _≤_}
 use native.Mathlib.Nat.{lt-of-le-of-lt, div-le-self, mod-le, mod-eq-of-lt}
 use native.Mathlib.Decide.{decLt}
 use native.Mathlib.Omega.{arith}
 use lib.Bits.{and-le-l, or-lt, xor-lt}
 use lib.Dec.{eqb, ltb}
-use lib.IntN.{ℤ, pos, negsuc, negℤ}
+use lib.IntN.{ℤ, pos, negsuc}
 use lib.Signed.{mag, mag-rem, mag-shr, quotZ, remZ, shrZ, ltZ}
 use borrow.Author.Tests.{lt-ltb, le-ltb, lt-leb, le-leb}
 use Rattle.arithmetic.specs.Words.{signed, word, add, sub, divSigned, remSigned, count, lsh, rshSigned, rshUnsigned, bitAnd, bitOr, bitXor, truth, logNot, equal, lessSigned, lessUnsigned, signedOf, ext, zeroExt}
-use Rattle.arithmetic.proofs.Signs.{by-sign}
+use Rattle.arithmetic.proofs.Signs.{by-sign, mag-quot}
 use Rattle.arithmetic.proofs.Shifts.{ext-by, ext-same}
 
 -- ---- a signed number whose magnitude is small enough has a word
@@ -23,20 +23,10 @@ word-below (negsuc n) h = omega arith
 mag-below : (a : ℕ) → a < 2 ^ 64 → mag (signed a) < 2 ^ 63
 mag-below a h = by-sign a (λ z. mag z < 2 ^ 63) (λ l. l) (λ l. omega arith)
 
-mag-negated : (n : ℕ) → mag (negℤ (pos n)) ≤ n
-mag-negated zero = omega arith
-mag-negated (suc n) = omega arith
-
-mag-quot : (x y : ℤ) → mag (quotZ x y) ≤ suc (mag x)
-mag-quot (pos a) (pos b) = omega (arith, div-le-self a b)
-mag-quot (pos a) (negsuc b) = omega (arith, div-le-self a (suc b), mag-negated (a / suc b))
-mag-quot (negsuc a) (pos b) = omega (arith, div-le-self (suc a) b, mag-negated (suc a / b))
-mag-quot (negsuc a) (negsuc b) = omega (arith, div-le-self (suc a) (suc b))
-
 module _ (a b : ℕ) (h : a < 2 ^ 64) where
   pub div-signed-below : divSigned a b < 2 ^ 64
   unfolding divSigned
-  div-signed-below = word-below (quotZ (signed a) (signed b)) (omega (arith, mag-quot (signed a) (signed b), mag-below a h))
+  div-signed-below = word-below (quotZ (signed a) (signed b)) (omega (arith, mag-quot (signed a) (signed b) {m = 2 ^ 63} (omega (arith, mag-below a h)) (λ e. mag-below a h)))
 
   pub rem-signed-below : remSigned a b < 2 ^ 64
   unfolding remSigned

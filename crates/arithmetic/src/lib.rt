@@ -1,12 +1,13 @@
 // What each operator computes on 64-bit words: specs/Words.antt, whose names are the opcodes'.
 ghost use mathlib.Core.Path.{_≡_};
 ghost use Prim.Native.Nat.{_<_, _^_};
-ghost use lib.IntN.{natAbs};
 ghost use lib.Signed.{shrZ};
 ghost use Rattle.arithmetic.specs.Words as Words;
 
 // From here up a word stands for a negative number.
 const HALF: u64 = 0x8000_0000_0000_0000;
+
+const MINUS_ONE: u64 = 0xffff_ffff_ffff_ffff;
 
 pub fn add(a: u64, b: u64) -> u64
     ensures { λ r. ⌜ r ≡ Words.add a b ⌝ }
@@ -32,23 +33,28 @@ pub fn mul(a: u64, b: u64) -> u64
     add(a_low * b_low, cross << 32)
 }
 
-// The signed number without its sign.
-fn magnitude(a: u64) -> u64
-    ensures { λ r. ⌜ r ≡ natAbs (Words.signed a) ⌝ }
+// A cast is defined only where it keeps the number: a negative number goes by -1 - x, which is not negative. Both compile to nothing.
+fn signed(a: u64) -> i64
+    ensures { λ r. ⌜ r ≡ Words.signed a ⌝ }
 {
-    if a < HALF { a } else { sub(0, a) }
+    if a < HALF { a as i64 } else { -1 - !a as i64 }
 }
 
+fn word(x: i64) -> u64
+    ensures { λ r. ⌜ r ≡ Words.word x ⌝ }
+{
+    if x >= 0 { x as u64 } else { !((-1 - x) as u64) }
+}
+
+// The least number divided by -1 is no i64, so a divisor of -1 is apart.
 pub fn div_signed(a: u64, b: u64) -> u64
     requires { ⌜ 0 < b ⌝ }
     ensures { λ r. ⌜ r ≡ Words.divSigned a b ⌝ }
 {
-    let quotient = magnitude(a) / magnitude(b);
-    if (a < HALF) == (b < HALF) {
-        quotient
-    } else {
-        sub(0, quotient)
+    if b == MINUS_ONE {
+        return sub(0, a);
     }
+    word(signed(a) / signed(b))
 }
 
 pub fn div_unsigned(a: u64, b: u64) -> u64
@@ -62,8 +68,10 @@ pub fn rem_signed(a: u64, b: u64) -> u64
     requires { ⌜ 0 < b ⌝ }
     ensures { λ r. ⌜ r ≡ Words.remSigned a b ⌝ }
 {
-    let rest = magnitude(a) % magnitude(b);
-    if a < HALF { rest } else { sub(0, rest) }
+    if b == MINUS_ONE {
+        return 0;
+    }
+    word(signed(a) % signed(b))
 }
 
 pub fn rem_unsigned(a: u64, b: u64) -> u64
@@ -157,12 +165,11 @@ pub fn equal(a: u64, b: u64) -> u64
     truth(a == b)
 }
 
-// With 2^63 added, modulo 2^64, words are in the order of their signed numbers. It compiles to one signed comparison.
 pub fn less_signed(a: u64, b: u64) -> u64
     ensures { λ r. ⌜ r ≡ Words.lessSigned a b ⌝ }
 {
-    let x = add(a, HALF);
-    let y = add(b, HALF);
+    let x = signed(a);
+    let y = signed(b);
     truth(x < y)
 }
 

@@ -85,13 +85,13 @@ pub run-number : (m : Fed) (v b : List ℕ) (u allowance : ℕ) {r k n : ℕ} (r
 run-number m v b u allowance {r} rs p = numbers.between-in 1 21 r (machine.stopped-number m v b u allowance p)
 
 pub read-number : (l : List ℕ) (used number i : ℕ) {r k : ℕ} → reading l used number i ≡ refusedRead r k → T (readerNumber r)
-read-number = numbers.read-number
+read-number l = reader.read-number readerNumber l tt tt tt tt tt
 
 pub count-number : (l : List ℕ) (used number : ℕ) {r k : ℕ} → counting l used number ≡ refusedCount r k → T (readerNumber r)
-count-number = numbers.count-number
+count-number l = reader.count-number readerNumber l tt tt tt tt
 
 pub walk-number : (l : List ℕ) (place : ℕ) {r k : ℕ} → walked l place ≡ at.refused r k → T (readerNumber r)
-walk-number = numbers.walked-number
+walk-number l = reader.walked-number readerNumber l tt tt tt
 
 -- ==== of a run
 -- m is fed to it, besides the variables v, the buffer b with its used length u, the tracepoint number t and the allowance. It gave the answer r and left the variables v′

@@ -1,5 +1,5 @@
-// Test vectors for `arithmetic`, `memory` and `frames`: a line with a call in, a line with its answer
-// out. The first character of a line is its kind:
+// Test vectors for `arithmetic`, `memory`, `frames` and `reader`: a line with a call in, a line with
+// its answer out. The first character of a line is its kind:
 //   w OPCODE A B                  an operator on words; B is 0 where it has one operand
 //   f F1 BYTES1 F2 BYTES2 A SIZE  a fetch of SIZE bytes at A
 //   r F1 BYTES1 F2 BYTES2 A       the rest of a span from A on
@@ -7,8 +7,14 @@
 //   m ROOM A BYTES                a memory record, written into a free part of ROOM bytes
 //   v ROOM NUMBER VALUE           a variable record
 //   t ROOM TRACEPOINT LENGTH      a trailer
-//   d BYTES                       records to read back: no answer yet, since `frames` does not read
+//   d BYTES                       all records of a frame whose records are these bytes
+// Of a buffer of LENGTH bytes, which are BYTES over and over, cut at its end:
+//   g BYTES LENGTH USED FRAME RECORD      one record
+//   c BYTES LENGTH USED FRAME             how many records a frame has
+//   l BYTES LENGTH USED FRAME             where a frame is
+//   s BYTES LENGTH PLACE                  a step of the walker
 mod fields;
+mod reading;
 mod text;
 mod words;
 
@@ -17,8 +23,9 @@ use fields::bytes_at;
 use fields::has_fields;
 use fields::number_at;
 use frames::Written;
-use libc::STDIN_FILENO;
 use libc::STDOUT_FILENO;
+use reading::append_division;
+use reading::append_frames;
 use report::text::append;
 use text::append_broken;
 use text::append_bytes;
@@ -116,7 +123,6 @@ fn append_room(out: &mut [u8], kind: u8, line: &[u8]) -> usize
     append_record(out, kind, line, &mut part[0..room])
 }
 
-// A line of kind d has no answer.
 fn append_answer(out: &mut [u8], kind: u8, line: &[u8]) -> usize
     ensures { λ r. ⌜ Counts r (now (out .exit)) ⌝ }
 {
@@ -129,7 +135,8 @@ fn append_answer(out: &mut [u8], kind: u8, line: &[u8]) -> usize
         ),
         b'f' | b'r' => append_spans(out, kind, line),
         b'z' => append_zero(out, line),
-        b'd' => 0,
+        b'd' => append_division(out, line),
+        b'g' | b'c' | b'l' | b's' => append_frames(out, kind, line),
         _ => append_room(out, kind, line),
     }
 }
@@ -145,6 +152,9 @@ fn fields_of(kind: u8) -> u64 {
         b'v' => 0x848,
         b't' => 0x428,
         b'd' => 0xb,
+        b'g' => 0x8_888b,
+        b'c' | b'l' => 0x888b,
+        b's' => 0x88b,
         _ => 0x10,
     }
 }
@@ -165,9 +175,6 @@ fn append_line(out: &mut [u8], line: &[u8]) -> usize
 fn print_answer(line: &[u8]) {
     let mut out = [0u8; 4096];
     let n = append_line(&mut out, line);
-    if n == 0 {
-        return;
-    }
     let end = append(&mut out, n, b"\n");
     io::write_all(STDOUT_FILENO, &out[..end]);
 }
@@ -182,78 +189,18 @@ fn answer(text: &[u8], len: usize) {
     print_answer(&text[0..len]);
 }
 
-// One character more. A line that is longer than the buffer has one length, whatever follows.
-fn take(text: &mut [u8], len: usize, c: u8) -> usize {
-    if len < text.len() {
-        text[len] = c;
-        return len + 1;
-    }
-    text.len() + 1
-}
-
-fn feed(text: &mut [u8], len: usize, c: u8) -> usize {
-    if c == b'\n' {
-        answer(text, len);
-        return 0;
-    }
-    take(text, len, c)
-}
-
-fn feed_all(text: &mut [u8], first: usize, part: &[u8]) -> usize {
-    let mut len = first;
-    let mut i = 0;
-    while i < part.len() {
-        len = feed(text, len, part[i]);
-        i += 1;
-    }
-    len
-}
-
-// The length of the line that is not ended yet, and whether there may be more input.
-pub struct Progress {
-    pub len: usize,
-    pub is_more: bool,
-}
-
-// One read: a line may go on in the next.
-fn read_some(text: &mut [u8], len: usize) -> Progress {
-    let mut part = io::large_buffer();
-    let got = libc::read(STDIN_FILENO, &mut part);
-    if got <= 0 {
-        return Progress {
-            len,
-            is_more: false,
-        };
-    }
-    let n = io::count(got, &part);
-    let next = feed_all(text, len, &part[..n]);
-    Progress {
-        len: next,
-        is_more: true,
-    }
-}
-
-// Reads to the end of the input, and answers the length of what follows the last line end. The
-// count of turns is there for the proof that the loop ends; no input uses it up.
-fn read_lines(text: &mut [u8]) -> usize {
-    let mut len = 0;
+// The count of turns is there for the proof that the loop ends; no input uses it up.
+fn main() {
+    let mut input = io::large_buffer();
+    let mut text = [0u8; 8448];
+    let mut line = lines::start();
     let mut turns = u64::MAX;
     while turns > 0 {
-        let progress = read_some(text, len);
-        if !progress.is_more {
-            return len;
+        line = lines::next(&mut input, &mut text, line);
+        if !line.is_line {
+            break;
         }
-        len = progress.len;
+        answer(&text, line.len);
         turns -= 1;
-    }
-    len
-}
-
-// A last line with no line end counts too.
-fn main() {
-    let mut text = [0u8; 4096];
-    let len = read_lines(&mut text);
-    if 0 < len {
-        answer(&text, len);
     }
 }

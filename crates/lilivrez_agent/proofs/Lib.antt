@@ -2,4 +2,5 @@
 pub mod Lending
 pub mod Telling
 pub mod Numbers
+pub mod Frames
 pub mod Promises

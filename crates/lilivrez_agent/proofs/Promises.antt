@@ -1,16 +1,23 @@
 -- What users of the library may cite. The contracts of src/lib.rt say what each function returns and stores, on any input whatever; the rest follows from them.
-use mathlib.Core.List.{List}
+use mathlib.Core.List.{List, [], _∷_}
 use mathlib.Core.Logic.{_≢_}
 use mathlib.Core.Path.{_≡_}
 use Prim.Native.Nat.{ℕ, _+_, _≤_}
 use lib.ListN.{length, take, drop}
+use lib.Dec.{T}
 use Rattle.memory.specs.Fetch.{fetchRefusal, fetched}
 use Rattle.machine.specs.Fed.{Fed}
 use Rattle.machine.specs.Run.{ended, numberOf}
 use Rattle.lilivrez_agent.specs.Lent.{spanOf, lentAt}
+use Rattle.frames.specs.Trailer.{trailerSize}
+use Rattle.reader.specs.Located.{frame, walked}
+use Rattle.reader.specs.Read.{memoryRead, reading, counting}
+use Rattle.reader.proofs.Promises as reader
 use Rattle.lilivrez_agent.specs.Told.{Completed}
+use Rattle.lilivrez_agent.specs.Frames.{among, IsRead, IsCounted, IsFound, readNumber, countNumber, walkNumber}
 use Rattle.lilivrez_agent.proofs.Lending as lending
 use Rattle.lilivrez_agent.proofs.Numbers as numbers
+use Rattle.lilivrez_agent.proofs.Frames as frames
 
 -- ---- a fetch of the k bytes at the address a
 module _ (f : ℕ) (image : List ℕ) (g : ℕ) (work : List ℕ) (a k : ℕ) where
@@ -39,3 +46,37 @@ module _ (m : Fed) (v buffer : List ℕ) (used allowance : ℕ) where
   -- and 0 is returned only where the run completed
   pub number-0 : numberOf (ended m v buffer used allowance) ≡ 0 → Completed (ended m v buffer used allowance)
   number-0 = numbers.number-0 m v buffer used allowance
+
+-- ---- record number i of a frame
+module _ (l : List ℕ) (used number i : ℕ) where
+  -- the numbers that may be returned
+  pub read-number : T (among (0 ∷ 15 ∷ 22 ∷ 23 ∷ 24 ∷ 25 ∷ []) (readNumber (reading l used number i)))
+  read-number = frames.read-number l used number i
+
+  -- and 0 is returned only where the record was read
+  pub read-0 : readNumber (reading l used number i) ≡ 0 → IsRead (reading l used number i)
+  read-0 = frames.read-0 l used number i
+
+  -- the buffer has all the bytes of a memory record, from the place stored on
+  pub read-within : {t a n p : ℕ} → reading l used number i ≡ memoryRead t a n p → p + n ≤ length l
+  read-within = reader.read-inside l used number i
+
+-- ---- the records of a frame, counted
+module _ (l : List ℕ) (used number : ℕ) where
+  pub count-number : T (among (0 ∷ 15 ∷ 22 ∷ 23 ∷ 24 ∷ []) (countNumber (counting l used number)))
+  count-number = frames.count-number l used number
+
+  pub count-0 : countNumber (counting l used number) ≡ 0 → IsCounted (counting l used number)
+  count-0 = frames.count-0 l used number
+
+-- ---- a step of a walk
+module _ (l : List ℕ) (place : ℕ) where
+  pub walk-number : T (among (0 ∷ 15 ∷ 22 ∷ 24 ∷ []) (walkNumber (walked l place)))
+  walk-number = frames.walk-number l place
+
+  pub walk-0 : walkNumber (walked l place) ≡ 0 → IsFound (walked l place)
+  walk-0 = frames.walk-0 l place
+
+  -- the frame found ends at the place given, so that a loop over the frames ends
+  pub walk-back : {t s n : ℕ} → walked l place ≡ frame t s n → s + n + trailerSize ≡ place
+  walk-back = reader.walked-back l place

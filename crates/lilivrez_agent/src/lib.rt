@@ -6,8 +6,14 @@ ghost use Rattle.machine.specs.Machine.{Ended};
 ghost use Rattle.machine.specs.Run.{ended, defaultAllowance};
 ghost use Rattle.runner.specs.Returned.{returned, returnedBy};
 ghost use Rattle.memory.specs.Fetch.{fetchRefusal};
+ghost use Rattle.reader.specs.Located.{walked};
+ghost use Rattle.reader.specs.Read.{reading, counting};
 ghost use Rattle.lilivrez_agent.specs.Lent.{lentAt, stored};
 ghost use Rattle.lilivrez_agent.specs.Told.{Told, ToldRun};
+ghost use Rattle.lilivrez_agent.specs.Frames.{readNumber, readValues, countNumber, countValues, walkNumber, walkValues};
+use reader::Count;
+use reader::Place;
+use reader::Reading;
 use runner::Outcome;
 use runner::Value;
 
@@ -133,4 +139,79 @@ pub extern "C" fn lilivrez_run_default<'a>(
         tracepoint,
     );
     tell(outcome, used, out)
+}
+
+// ---- frames
+
+// Reads record number `index` of frame number `frame`, both from 0; frame 0 is the newest. Returns the number of the refusal, or 0 where the record was read.
+// Stores the offset of the refusal, the tracepoint number, the record's kind (1 memory, 2 variable), then the address, the length and the place of its bytes in
+// the buffer, or the variable's number and value.
+#[no_mangle]
+pub extern "C" fn lilivrez_read(
+    buffer: &[u8],
+    used: usize,
+    frame: u64,
+    index: u64,
+    out: &mut [u64; 6],
+) -> u32
+    ensures number { λ r. ⌜ r ≡ readNumber (reading (now (buffer .entry)) used frame index) ⌝ }
+    ensures values { λ _. ⌜ now (out .exit) ≡ readValues (reading (now (buffer .entry)) used frame index) ⌝ }
+{
+    match reader::read(buffer, used, frame, index) {
+        Reading::NoReading(number, offset) => {
+            *out = [offset as u64, 0, 0, 0, 0, 0];
+            number as u32
+        }
+        Reading::Memory(point, address, length, place) => {
+            let tracepoint = point as u64;
+            *out = [0, tracepoint, 1, address, length as u64, place as u64];
+            0
+        }
+        Reading::Variable(point, variable, value) => {
+            let tracepoint = point as u64;
+            *out = [0, tracepoint, 2, variable, value, 0];
+            0
+        }
+    }
+}
+
+// Counts the records of frame number `frame`. Returns the number of the refusal, or 0. Stores the offset of the refusal, the tracepoint number, the start of the
+// frame, the length of its records and their number.
+#[no_mangle]
+pub extern "C" fn lilivrez_count(buffer: &[u8], used: usize, frame: u64, out: &mut [u64; 5]) -> u32
+    ensures number { λ r. ⌜ r ≡ countNumber (counting (now (buffer .entry)) used frame) ⌝ }
+    ensures values { λ _. ⌜ now (out .exit) ≡ countValues (counting (now (buffer .entry)) used frame) ⌝ }
+{
+    match reader::count_records(buffer, used, frame) {
+        Count::NoCount(number, offset) => {
+            *out = [offset as u64, 0, 0, 0, 0];
+            number as u32
+        }
+        Count::Records(point, start, length, records) => {
+            let tracepoint = point as u64;
+            *out = [0, tracepoint, start as u64, length as u64, records as u64];
+            0
+        }
+    }
+}
+
+// One step of the walker: the frame that ends at `place`. Returns the number of the refusal, or 0. Stores the offset of the refusal, the tracepoint number, the
+// start of the frame, the length of its records and the place after the step. That place is a variable of the caller: the walker's struct holds a reference,
+// and only numbers and slices cross the boundary.
+#[no_mangle]
+pub extern "C" fn lilivrez_walk(buffer: &[u8], place: usize, out: &mut [u64; 5]) -> u32
+    ensures number { λ r. ⌜ r ≡ walkNumber (walked (now (buffer .entry)) place) ⌝ }
+    ensures values { λ _. ⌜ now (out .exit) ≡ walkValues place (walked (now (buffer .entry)) place) ⌝ }
+{
+    match reader::walk(buffer, place) {
+        Place::NoFrame(number, offset) => {
+            *out = [offset as u64, 0, 0, 0, place as u64];
+            number as u32
+        }
+        Place::Frame(point, start, length) => {
+            let tracepoint = point as u64;
+            *out = [0, tracepoint, start as u64, length as u64, start as u64];
+            0
+        }
+    }
 }

@@ -25,7 +25,6 @@ use inputs::put_registers;
 use inputs::put_span;
 use inputs::put_variables;
 use inputs::span_room;
-use libc::STDIN_FILENO;
 use libc::STDOUT_FILENO;
 use report::text::append;
 use runner::Outcome;
@@ -286,78 +285,18 @@ fn answer(text: &[u8], len: usize) {
     print_answer(&text[0..len]);
 }
 
-// One character more. A line that is longer than the buffer has one length, whatever follows.
-fn take(text: &mut [u8], len: usize, c: u8) -> usize {
-    if len < text.len() {
-        text[len] = c;
-        return len + 1;
-    }
-    text.len() + 1
-}
-
-fn feed(text: &mut [u8], len: usize, c: u8) -> usize {
-    if c == b'\n' {
-        answer(text, len);
-        return 0;
-    }
-    take(text, len, c)
-}
-
-fn feed_all(text: &mut [u8], first: usize, part: &[u8]) -> usize {
-    let mut len = first;
-    let mut i = 0;
-    while i < part.len() {
-        len = feed(text, len, part[i]);
-        i += 1;
-    }
-    len
-}
-
-// The length of the line that is not ended yet, and whether there may be more input.
-pub struct Progress {
-    pub len: usize,
-    pub is_more: bool,
-}
-
-// One read: a line may go on in the next.
-fn read_some(text: &mut [u8], len: usize) -> Progress {
-    let mut part = io::large_buffer();
-    let got = libc::read(STDIN_FILENO, &mut part);
-    if got <= 0 {
-        return Progress {
-            len,
-            is_more: false,
-        };
-    }
-    let n = io::count(got, &part);
-    let next = feed_all(text, len, &part[..n]);
-    Progress {
-        len: next,
-        is_more: true,
-    }
-}
-
-// Reads to the end of the input, and answers the length of what follows the last line end. The
-// count of turns is there for the proof that the loop ends; no input uses it up.
-fn read_lines(text: &mut [u8]) -> usize {
-    let mut len = 0;
+// The count of turns is there for the proof that the loop ends; no input uses it up.
+fn main() {
+    let mut input = io::large_buffer();
+    let mut text = [0u8; 4096];
+    let mut line = lines::start();
     let mut turns = u64::MAX;
     while turns > 0 {
-        let progress = read_some(text, len);
-        if !progress.is_more {
-            return len;
+        line = lines::next(&mut input, &mut text, line);
+        if !line.is_line {
+            break;
         }
-        len = progress.len;
+        answer(&text, line.len);
         turns -= 1;
-    }
-    len
-}
-
-// A last line with no line end counts too.
-fn main() {
-    let mut text = [0u8; 4096];
-    let len = read_lines(&mut text);
-    if 0 < len {
-        answer(&text, len);
     }
 }

@@ -6,9 +6,9 @@ use crate::isa;
 use crate::leaf::{Case, Item};
 use crate::random::Random;
 
-const MEMORY_HEADER: usize = 11;
-const VARIABLE: usize = 13;
-const TRAILER: usize = 8;
+pub const MEMORY_HEADER: usize = 11;
+pub const VARIABLE: usize = 13;
+pub const TRAILER: usize = 8;
 /// What the trailer of the largest frame holds: the buffer has 65,536 bytes.
 const MOST_RECORDS: usize = 65_536 - TRAILER;
 
@@ -86,7 +86,7 @@ fn memory_write(random: &mut Random, room: usize, count: usize) -> Case {
     write(room, Item::Record(record))
 }
 
-fn word(random: &mut Random) -> u64 {
+pub fn word(random: &mut Random) -> u64 {
     random.number() >> random.below(64)
 }
 
@@ -96,18 +96,18 @@ fn edge(random: &mut Random) -> u64 {
 }
 
 /// A memory record that claims to have `length` bytes.
-fn memory(address: u64, length: u16, bytes: &[u8]) -> Vec<u8> {
+pub fn memory(address: u64, length: u16, bytes: &[u8]) -> Vec<u8> {
     let numbers = [&address.to_le_bytes()[..], &length.to_le_bytes()].concat();
     [&[0x4d], &numbers[..], bytes].concat()
 }
 
-fn variable(number: u32, value: u64) -> Vec<u8> {
+pub fn variable(number: u32, value: u64) -> Vec<u8> {
     let numbers = [&number.to_le_bytes()[..], &value.to_le_bytes()].concat();
     [&[0x56], &numbers[..]].concat()
 }
 
 /// A record as it should be, with at most `most` bytes.
-fn record(random: &mut Random, most: usize) -> Vec<u8> {
+pub fn record(random: &mut Random, most: usize) -> Vec<u8> {
     let number = random.below(64) as u32;
     if random.chance(1, 2) {
         return variable(number, word(random));

@@ -45,7 +45,7 @@ fn round(random: &mut Random, count: usize, make: fn(&mut Random, usize) -> Case
 }
 
 /// A few phrases on a scene.
-fn phrases(random: &mut Random) -> Case {
+pub fn phrases(random: &mut Random) -> Case {
     let mut case = scene::scene(random);
     let most = random.choose(&[1, 3, 5, 8, 8, 12, 16]);
     let count = random.between(1, most);
@@ -79,13 +79,16 @@ fn tight(random: &mut Random) -> Case {
     case
 }
 
+/// A step that is refused with 17 to 20, of any kind.
+pub fn fault(random: &mut Random) -> Case {
+    let number = random.below(faults::KINDS);
+    faults::faulty(random, number)
+}
+
 /// An allowance around the steps of the run, which may be refused by itself.
 fn scarce(random: &mut Random) -> Case {
     let mut case = match random.below(4) {
-        0 => {
-            let number = random.below(faults::KINDS);
-            faults::faulty(random, number)
-        }
+        0 => fault(random),
         _ => phrases(random),
     };
     match random.below(4) {

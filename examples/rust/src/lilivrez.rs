@@ -147,6 +147,30 @@ mod library {
             allowance: u64,
             out: *mut [u64; 6],
         ) -> u32;
+
+        pub fn lilivrez_read(
+            buffer: *const u8,
+            buffer_length: usize,
+            used: usize,
+            frame: u64,
+            index: u64,
+            out: *mut [u64; 6],
+        ) -> u32;
+
+        pub fn lilivrez_count(
+            buffer: *const u8,
+            buffer_length: usize,
+            used: usize,
+            frame: u64,
+            out: *mut [u64; 5],
+        ) -> u32;
+
+        pub fn lilivrez_walk(
+            buffer: *const u8,
+            buffer_length: usize,
+            place: usize,
+            out: *mut [u64; 5],
+        ) -> u32;
     }
 }
 
@@ -321,3 +345,86 @@ fn value_of(cells: u64, top: u64, beneath: u64) -> Value {
 }
 
 // ---- reading frames
+
+#[derive(Clone, Copy, Debug, PartialEq, Eq)]
+pub enum Record<'a> {
+    Memory { address: u64, bytes: &'a [u8] },
+    Variable { number: u64, value: u64 },
+}
+
+/// Record number `index` of frame number `frame`, both from 0; frame 0 is the newest. The bytes are those in the buffer.
+pub fn read(buffer: &[u8], used: usize, frame: u64, index: u64) -> Result<Record<'_>, Refused> {
+    let mut out = [0; 6];
+    // SAFETY: pointer and length are of one slice, and `out` is borrowed by nobody else.
+    let number = unsafe {
+        library::lilivrez_read(buffer.as_ptr(), buffer.len(), used, frame, index, &mut out)
+    };
+    if let Some(refusal) = Refusal::from(number) {
+        let offset = out[0];
+        return Err(Refused { refusal, offset });
+    }
+    let [_, _, kind, first, second, third] = out;
+    Ok(match kind {
+        1 => Record::Memory {
+            address: first,
+            bytes: &buffer[third as usize..][..second as usize],
+        },
+        _ => Record::Variable {
+            number: first,
+            value: second,
+        },
+    })
+}
+
+/// How many records frame number `frame` has.
+pub fn count(buffer: &[u8], used: usize, frame: u64) -> Result<u64, Refused> {
+    let mut out = [0; 5];
+    // SAFETY: pointer and length are of one slice, and `out` is borrowed by nobody else.
+    let number =
+        unsafe { library::lilivrez_count(buffer.as_ptr(), buffer.len(), used, frame, &mut out) };
+    let [offset, _, _, _, records] = out;
+    match Refusal::from(number) {
+        Some(refusal) => Err(Refused { refusal, offset }),
+        None => Ok(records),
+    }
+}
+
+#[derive(Clone, Copy, Debug, PartialEq, Eq)]
+pub struct Frame {
+    pub tracepoint: u64,
+    pub start: u64,
+    pub length: u64,
+}
+
+/// Over the frames from the newest to the oldest: at first `place` is the used length.
+#[derive(Clone, Copy, Debug)]
+pub struct Walker<'a> {
+    pub buffer: &'a [u8],
+    pub place: usize,
+}
+
+impl Walker<'_> {
+    /// The next older frame, or a refusal with the place kept.
+    pub fn step(&mut self) -> Result<Frame, Refused> {
+        let mut out = [0; 5];
+        // SAFETY: pointer and length are of one slice, and `out` is borrowed by nobody else.
+        let number = unsafe {
+            library::lilivrez_walk(
+                self.buffer.as_ptr(),
+                self.buffer.len(),
+                self.place,
+                &mut out,
+            )
+        };
+        let [offset, tracepoint, start, length, next] = out;
+        self.place = next as usize;
+        match Refusal::from(number) {
+            Some(refusal) => Err(Refused { refusal, offset }),
+            None => Ok(Frame {
+                tracepoint,
+                start,
+                length,
+            }),
+        }
+    }
+}

@@ -1,12 +1,21 @@
 //! A unit's firmware in small: the program of examples/c, from Rust. Both print the same.
 mod lilivrez;
 
-use lilivrez::{Span, Target, TraceBuffer, Value};
+use lilivrez::{Record, Refused, Span, Target, TraceBuffer, Value, Walker};
 
 const TRACEPOINT: u16 = 7;
 
 fn hex(bytes: &[u8]) -> String {
     bytes.iter().map(|b| format!(" {b:02x}")).collect()
+}
+
+fn print_refusal(r: Refused) {
+    println!(
+        "  refused {} at offset {}: {}",
+        r.refusal.number(),
+        r.offset,
+        r.refusal
+    );
 }
 
 /// The console's part.
@@ -17,12 +26,7 @@ fn verify(what: &str, expression: &[u8]) {
             "  accepted: {} instructions, greatest height {}, longest walk {}",
             a.instructions, a.greatest_height, a.longest_walk
         ),
-        Err(r) => println!(
-            "  refused {} at offset {}: {}",
-            r.refusal.number(),
-            r.offset,
-            r.refusal
-        ),
+        Err(r) => print_refusal(r),
     }
 }
 
@@ -66,6 +70,50 @@ impl Unit<'_> {
                 s.refusal
             ),
         }
+    }
+
+    fn print_record(&self, frame: u64, index: u64) {
+        match lilivrez::read(self.buffer.bytes, self.buffer.used, frame, index) {
+            Ok(Record::Memory { address, bytes }) => {
+                println!("  memory at {address}:{}", hex(bytes))
+            }
+            Ok(Record::Variable { number, value }) => println!("  variable {number}: {value}"),
+            Err(r) => print_refusal(r),
+        }
+    }
+
+    fn print_frame(&self, frame: u64) {
+        match lilivrez::count(self.buffer.bytes, self.buffer.used, frame) {
+            Ok(records) => {
+                println!("  records {records}");
+                for i in 0..records {
+                    self.print_record(frame, i);
+                }
+            }
+            Err(r) => print_refusal(r),
+        }
+    }
+
+    /// From the newest frame to the oldest. The walk ends with a refusal: 24 where no frame is broken.
+    fn print_frames(&self) {
+        let mut walker = Walker {
+            buffer: self.buffer.bytes,
+            place: self.buffer.used,
+        };
+        let mut frame = 0;
+        let end = loop {
+            match walker.step() {
+                Ok(f) => println!(
+                    "frame {frame}: tracepoint {}, start {}, length of the records {}",
+                    f.tracepoint, f.start, f.length
+                ),
+                Err(r) => break r,
+            }
+            self.print_frame(frame);
+            frame += 1;
+        };
+        println!("walk on from {}", walker.place);
+        print_refusal(end);
     }
 
     fn fetch(&self, name: &str, address: u64, size: u64) {
@@ -119,6 +167,10 @@ fn main() {
         "variable 3 is {}, {} bytes of the trace buffer are used",
         unit.variables[3], unit.buffer.used
     );
+
+    unit.print_frames();
+    println!("read record 1 of frame 1");
+    unit.print_record(1, 1);
 
     unit.fetch("program image", 32769, 3);
     unit.fetch("working memory", 4098, 2);

@@ -1,29 +1,31 @@
 use mathlib.Core.Path.{_∙_}
-use native.Mathlib.Omega.{arith}
-use Rattle.arithmetic.proofs.Signs.{magnitude-pos, remainder-low, remainder-high}
+use Rattle.arithmetic.proofs.Signs.{divisible, remainder, remainder-none}
 use borrow.Author.Needs.{needs}
 use Rattle.arithmetic.proofs.rem_signed.Statement.{statement}
 use Rattle.arithmetic.proofs.rem_signed.Tie as tie
 
-magnitude-requires : tie.Need-magnitude-requires
-magnitude-requires c κs = search needs
-
-magnitude-requires-2 : tie.Need-magnitude-requires-2
-magnitude-requires-2 c κs = search needs
-
-rem-rest : tie.Need-rem-rest
-rem-rest c = magnitude-pos _ (c .magnitude2 .ensures) (c .before .before .pre)
-
-sub-requires : tie.Need-sub-requires
-sub-requires c κs = search needs
-
 returns : tie.Need-returns
-returns c = remainder-low _ _ (c .before .before .magnitude .ensures) (c .before .magnitude2 .ensures) (omega arith)
+returns c = remainder-none _ _ (c .if1 .taken)
+
+signed-requires : tie.Need-signed-requires
+signed-requires c κs = search needs
+
+signed-requires-2 : tie.Need-signed-requires-2
+signed-requires-2 c κs = search needs
+
+rem-word : tie.Need-rem-word
+rem-word c =
+    let entry = c .before .before .before in
+    divisible (entry .fits .a) (entry .fits .b) (c .before .signed .ensures) (c .signed2 .ensures) (entry .pre) (c .before .before .if1 .left)
+
+word-requires : tie.Need-word-requires
+word-requires c κs = search needs
 
 returns-2 : tie.Need-returns-2
-returns-2 c = c .sub .ensures ∙ remainder-high _ _ (c .before .before .before .magnitude .ensures) (c .before .before .magnitude2 .ensures) (omega arith) (omega arith)
+returns-2 c =
+    let entry = c .before .before .before .before in
+    c .word .ensures ∙ remainder (entry .fits .a) (entry .fits .b) (c .before .before .signed .ensures) (c .before .signed2 .ensures)
 
 pub rem-signed-spec : {M : Type 1} → statement M
 rem-signed-spec =
-    tie.close
-    (tie.spec magnitude-requires magnitude-requires-2 rem-rest sub-requires returns returns-2)
+    tie.close (tie.spec returns signed-requires signed-requires-2 rem-word word-requires returns-2)

@@ -1,0 +1,57 @@
+-- What the frame reader answers, as numbers: what `lilivrez_read`, `lilivrez_count` and `lilivrez_walk` return and store. Document 01, "Frames".
+use mathlib.Core.Bool.{Bool, false, _||_}
+use mathlib.Core.List.{List, [], _∷_}
+use Prim.Native.Nat.{ℕ}
+use lib.Dec.{eqb}
+use Rattle.reader.specs.Located.{Located, frame, refused, placeAfter}
+use Rattle.reader.specs.Read.{Read, memoryRead, variableRead, refusedRead, Counted, counted, refusedCount}
+
+-- r is one of these numbers
+abbrev pub among : List ℕ → ℕ → Bool
+among [] r = false
+among (n ∷ ns) r = eqb r n || among ns r
+
+-- the record was read, the records were counted, the frame was found
+abbrev pub IsRead : Read → Type 0
+IsRead (memoryRead t a n p) = Unit {0}
+IsRead (variableRead t i x) = Unit {0}
+IsRead (refusedRead r k) = ⊥
+
+abbrev pub IsCounted : Counted → Type 0
+IsCounted (counted t s n c) = Unit {0}
+IsCounted (refusedCount r k) = ⊥
+
+abbrev pub IsFound : Located → Type 0
+IsFound (frame t s n) = Unit {0}
+IsFound (refused r k) = ⊥
+
+-- the number of the refusal: 0 where there is none
+unfoldable pub readNumber : Read → ℕ
+readNumber (memoryRead t a n p) = 0
+readNumber (variableRead t i x) = 0
+readNumber (refusedRead r k) = r
+
+unfoldable pub countNumber : Counted → ℕ
+countNumber (counted t s n c) = 0
+countNumber (refusedCount r k) = r
+
+unfoldable pub walkNumber : Located → ℕ
+walkNumber (frame t s n) = 0
+walkNumber (refused r k) = r
+
+-- the offset of the refusal, then "the frame's tracepoint number and the record's kind" (1 memory, 2 variable), "with the address, the length and the place of
+-- its bytes in the buffer, or the variable's number and value": 0 for what is not there
+unfoldable pub readValues : Read → List ℕ
+readValues (memoryRead t a n p) = 0 ∷ t ∷ 1 ∷ a ∷ n ∷ p ∷ []
+readValues (variableRead t i x) = 0 ∷ t ∷ 2 ∷ i ∷ x ∷ 0 ∷ []
+readValues (refusedRead r k) = k ∷ 0 ∷ 0 ∷ 0 ∷ 0 ∷ 0 ∷ []
+
+-- the offset of the refusal, then the tracepoint number, the start, the length of the records, their number
+unfoldable pub countValues : Counted → List ℕ
+countValues (counted t s n c) = 0 ∷ t ∷ s ∷ n ∷ c ∷ []
+countValues (refusedCount r k) = k ∷ 0 ∷ 0 ∷ 0 ∷ 0 ∷ []
+
+-- the offset of the refusal, then "the next older frame's tracepoint number, start and record length", then the walker's place after its step
+unfoldable pub walkValues : ℕ → Located → List ℕ
+walkValues place (frame t s n) = 0 ∷ t ∷ s ∷ n ∷ placeAfter place (frame t s n) ∷ []
+walkValues place (refused r k) = k ∷ 0 ∷ 0 ∷ 0 ∷ placeAfter place (refused r k) ∷ []
