@@ -11,7 +11,7 @@ mod mutate;
 mod noise;
 mod operands;
 mod program;
-mod reader;
+pub mod reader;
 pub mod runs;
 mod shapes;
 mod structured;
@@ -19,6 +19,7 @@ mod words;
 
 use crate::isa;
 use crate::leaf::Case;
+use crate::memory::Span;
 use crate::random::Random;
 use std::collections::BTreeSet;
 
@@ -104,6 +105,16 @@ fn long_structured(random: &mut Random) -> Vec<u8> {
     structured::exact(random, length).bytes()
 }
 
+/// A long one with a byte or two changed.
+fn long_damaged(random: &mut Random) -> Vec<u8> {
+    let mut bytes = long_structured(random);
+    for _ in 0..random.between(1, 2) {
+        let at = random.below(bytes.len());
+        bytes[at] = random.byte();
+    }
+    bytes
+}
+
 fn mutated(random: &mut Random) -> Vec<u8> {
     let most = random.choose(&[12, 25, 50, 100]);
     let size = random.between(2, most);
@@ -111,23 +122,42 @@ fn mutated(random: &mut Random) -> Vec<u8> {
     mutate::mutate(random, &program)
 }
 
+/// A small expression of a kind that goes round with `number`.
+pub fn small(random: &mut Random, number: usize) -> Vec<u8> {
+    let size = random.between(1, 30);
+    let program = structured::program(random, size);
+    match number % 5 {
+        0 => program.bytes(),
+        1 => mutate::mutate(random, &program),
+        2 => faults::one(random, number / 5),
+        3 => noise::random_bytes(random),
+        _ => noise::random_opcodes(random),
+    }
+}
+
+/// An expression of a kind that goes round with `number`: one in 20 is long.
+pub fn any_expression(random: &mut Random, number: usize) -> Vec<u8> {
+    match number % 64 {
+        0 => long_structured(random),
+        1 => long_damaged(random),
+        2 => edges::too_long(random, 1).concat(),
+        3 => Vec::new(),
+        4 | 5 => edges::full_stacks(random, 1).concat(),
+        6..=12 => small_structured(random),
+        13..=16 => mutated(random),
+        _ => small(random, number),
+    }
+}
+
+/// Spans, an address and a size, in or near them.
+pub fn any_fetch(random: &mut Random) -> ([Span; 2], u64, u64) {
+    memory::any_range(random)
+}
+
 #[cfg(test)]
-pub mod tests {
+mod tests {
     use super::*;
     use crate::verify::verify;
-
-    /// A small expression of a kind that goes round with `number`.
-    pub fn small(random: &mut Random, number: usize) -> Vec<u8> {
-        let size = random.between(1, 30);
-        let program = structured::program(random, size);
-        match number % 5 {
-            0 => program.bytes(),
-            1 => mutate::mutate(random, &program),
-            2 => faults::one(random, number / 5),
-            3 => noise::random_bytes(random),
-            _ => noise::random_opcodes(random),
-        }
-    }
 
     #[test]
     fn structured_expressions_are_accepted() {

@@ -21,7 +21,7 @@ const ALLOWANCE_SPENT: u8 = 16;
 const NO_REGISTER: u8 = 18;
 const NOT_READABLE: u8 = 19;
 const TOO_LONG: u8 = 20;
-const NO_ROOM: u8 = 21;
+pub const NO_ROOM: u8 = 21;
 
 pub type Variables = [u64; isa::VARIABLES as usize];
 
@@ -361,7 +361,7 @@ impl Machine<'_> {
 mod tests {
     use super::*;
     use crate::generate;
-    use crate::generate::runs::tests::any;
+    use crate::generate::runs::any;
     use crate::random::Random;
     use crate::runs::{Bytes, Case};
 

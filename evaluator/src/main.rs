@@ -1,27 +1,10 @@
-//! An evaluator of GDB agent expressions written from document 01 alone. It
-//! shares nothing with the proved verifier and writes test vectors for it.
+//! The command: evaluates single cases and writes the test vectors.
 
-mod counts;
-mod frames;
-mod generate;
-mod hex;
-mod isa;
-mod leaf;
-mod machine;
-mod memory;
-mod random;
-mod reader;
-mod reads;
-mod runs;
-mod vectors;
-mod verify;
-mod walks;
-mod words;
-
+use evaluator::vectors::{self, Vectors};
+use evaluator::{counts, hex, machine, runs, verify};
 use std::io::Write;
 use std::path::Path;
 use std::process::ExitCode;
-use vectors::Vectors;
 
 const HELP: &str = "\
 evaluator: evaluates agent expressions as document 01 says

@@ -198,7 +198,7 @@ impl Case {
 
 /// A number as it is written: `from_str_radix` would take a sign, capitals and
 /// leading zeros too.
-fn read_number(text: &str) -> Result<u64, String> {
+pub fn read_number(text: &str) -> Result<u64, String> {
     match u64::from_str_radix(text, 16) {
         Ok(number) if format!("{number:x}") == text => Ok(number),
         _ => Err(format!("`{text}` is no number in hex")),
@@ -238,7 +238,7 @@ fn read_variables(text: &str) -> Result<BTreeMap<usize, u64>, String> {
 }
 
 /// A pattern has at most 131,072 bytes; document 01 sets spans no limit.
-fn read_bytes(text: &str) -> Result<Bytes, String> {
+pub fn read_bytes(text: &str) -> Result<Bytes, String> {
     if text == "-" {
         return Ok(Bytes::Listed(Vec::new()));
     }

@@ -179,7 +179,7 @@ fn judge(bytes: &[u8], count: usize, walks: &[Walk]) -> Outcome {
 #[cfg(test)]
 mod tests {
     use super::*;
-    use crate::generate::tests::small;
+    use crate::generate::small;
     use crate::random::Random;
     use crate::verify::verify;
 

@@ -51,7 +51,10 @@ fn append_read<'a>(out: &mut [u8], kind: u8, line: &[u8], image: &'a [u8], work:
     let a = number_at(line, 5);
     if kind == b'r' {
         let refusal = memory::spans_refusal(f, image, g, work);
-        return append_lent(out, refusal, memory::rest(f, image, g, work, a));
+        if refusal != 0 {
+            return append_refused(out, refusal);
+        }
+        return append_bytes(out, 0, memory::rest(f, image, g, work, a));
     }
     let size = number_at(line, 6);
     let refusal = memory::fetch_refusal(f, image, g, work, a, size);

@@ -2,8 +2,8 @@
 use mathlib.Core.Bool.{Bool, true, false, cond, not, _&&_}
 use mathlib.Core.List.{List, [], _∷_}
 use mathlib.Core.Logic.{_↔_, _≢_, _⊎_, inl, inr, ⊎-elim}
-use mathlib.Core.Path.{_≡_, refl, sym, _∙_}
-use Prim.Native.Nat.{ℕ, _+_, _-_, _≤_, _<_}
+use mathlib.Core.Path.{_≡_, refl, ap, sym, _∙_}
+use Prim.Native.Nat.{ℕ, _+_, _-_, _%_, _^_, _≤_, _<_}
 use native.Mathlib.Omega.{arith}
 use lib.Dec.{ltb, leb}
 use lib.ListN.{length, take, drop, getD, length-take, length-drop}
@@ -13,7 +13,7 @@ use Rattle.encoding.proofs.Promises.{cases, no-true}
 use Rattle.memory.specs.Spans.{InSpan, spanTests, spansRefusal}
 use Rattle.memory.specs.Fetch.{holdsRange, readable, fetchRefusal, whichever, fetched, targetByte, restOf, Within, Readable, PartOf}
 use Rattle.memory.proofs.Choosing.{cond-elim, zero-cases, tried-first, tried-then}
-use Rattle.memory.proofs.Testing.{holds-yes, holds-not, holds-true, holds-false}
+use Rattle.memory.proofs.Testing.{holds-yes, holds-not, holds-true, holds-false, wrapped-in, wrapped-out}
 use Rattle.memory.proofs.Spanning.{spans-pass, spans-most, spans-0}
 
 and-false : (t : Bool) → _≡_ {A = ℕ} (cond (t && false) 19 0) 0
@@ -43,7 +43,7 @@ misses-address f n x h = holds-not f n x 1 (λ s. cases x (f + n) (λ t. absurd 
 length-part : (k i : ℕ) (l : List ℕ) → i + k ≤ length l → length (take k (drop i l)) ≡ k
 length-part k i l h = simp (length-take, length-drop) (omega arith)
 
-pub rest-whole : (i : ℕ) (l : List ℕ) → take (length l - i) (drop i l) ≡ drop i l
+rest-whole : (i : ℕ) (l : List ℕ) → take (length l - i) (drop i l) ≡ drop i l
 rest-whole i l = take-all (length l - i) (drop i l) (omega (arith, length-drop i l))
 
 part-byte : (k i j : ℕ) (l : List ℕ) → j < k → getD (take k (drop i l)) j 0 ≡ getD l (i + j) 0
@@ -185,17 +185,36 @@ module _ (f : ℕ) (image : List ℕ) (g : ℕ) (work : List ℕ) where
 
   -- ---- the bytes from an address on
   module _ (a : ℕ) where
-    pub rest-image : holdsRange f (length image) a 1 ≡ true → drop (a - f) image ≡ restOf f image g work a
+    rest-image : holdsRange f (length image) a 1 ≡ true → drop (a - f) image ≡ restOf f image g work a
     unfolding restOf
     rest-image h = sym (rw h)
 
-    pub rest-work : holdsRange f (length image) a 1 ≡ false → holdsRange g (length work) a 1 ≡ true → drop (a - g) work ≡ restOf f image g work a
+    rest-work : holdsRange f (length image) a 1 ≡ false → holdsRange g (length work) a 1 ≡ true → drop (a - g) work ≡ restOf f image g work a
     unfolding restOf
     rest-work h s = sym (rw (h, s))
 
-    pub rest-none : holdsRange f (length image) a 1 ≡ false → holdsRange g (length work) a 1 ≡ false → [] ≡ restOf f image g work a
+    rest-none : holdsRange f (length image) a 1 ≡ false → holdsRange g (length work) a 1 ≡ false → [] ≡ restOf f image g work a
     unfolding restOf
     rest-none h s = sym (rw (h, s))
+
+  -- found by the difference w of the address and the first one of the image, or x of the working memory, modulo 2^64
+  module _ (fine : spansRefusal f image g work ≡ 0) {a w : ℕ} (e : (w + f) % 2 ^ 64 ≡ a) where
+    pub rest-in-image : w < length image → take (length image - w) (drop w image) ≡ restOf f image g work a
+    rest-in-image h =
+        let o = wrapped-in f (length image) a w (spans-0 f image g work .0 fine .image-fits) e h in
+        rest-whole w image ∙ ap (λ (i : ℕ). drop i image) (o .0) ∙ rest-image a (o .1)
+
+    module _ (b : w < 2 ^ 64) (h : length image ≤ w) where
+      not-image : holdsRange f (length image) a 1 ≡ false
+      not-image = wrapped-out f (length image) a w (spans-0 f image g work .0 fine .image-fits) e b h
+
+      pub rest-in-work : {x : ℕ} → (x + g) % 2 ^ 64 ≡ a → x < length work → take (length work - x) (drop x work) ≡ restOf f image g work a
+      rest-in-work {x} d s =
+          let o = wrapped-in g (length work) a x (spans-0 f image g work .0 fine .work-fits) d s in
+          rest-whole x work ∙ ap (λ (i : ℕ). drop i work) (o .0) ∙ rest-work a not-image (o .1)
+
+      pub rest-in-none : {x : ℕ} → (x + g) % 2 ^ 64 ≡ a → x < 2 ^ 64 → length work ≤ x → [] ≡ restOf f image g work a
+      rest-in-none {x} d l s = rest-none a not-image (wrapped-out g (length work) a x (spans-0 f image g work .0 fine .work-fits) d l s)
 
   module _ (fine : spansRefusal f image g work ≡ 0) (a : ℕ) where
     apart : (x : ℕ) → InSpan f (length image) x → InSpan g (length work) x → ⊥

@@ -1,7 +1,7 @@
 -- What each test of the code says of addresses, and the case laws of `ends_past`, `share_address` and `holds_range`.
 use mathlib.Core.Path.{_≡_, refl, sym, _∙_}
 use mathlib.Core.Bool.{Bool, true, false, _&&_}
-use Prim.Native.Nat.{ℕ, suc, _<_, _≤_, _+_, _-_, _^_, min, max}
+use Prim.Native.Nat.{ℕ, suc, _<_, _≤_, _+_, _-_, _%_, _^_, min, max}
 use native.Mathlib.Omega.{arith}
 use lib.Dec.{ltb, leb}
 use borrow.Author.Tests.{lt-ltb, le-ltb, ltb-true, ltb-false, le-leb, lt-leb, leb-true, leb-false}
@@ -85,3 +85,11 @@ module _ (f n a k : ℕ) where
   pub holds-false : holdsRange f n a k ≡ false → f ≤ a → f + n < a + k
   unfolding holdsRange
   holds-false h s = leb-false (a + k) (f + n) (simp (le-leb f a s) at h)
+
+-- ---- the difference w of an address and a first address, modulo 2^64, where the span ends at 2^64 at most
+module _ (f n a w : ℕ) (fits : f + n ≤ 2 ^ 64) (wraps : (w + f) % 2 ^ 64 ≡ a) where
+  pub wrapped-in : w < n → (w ≡ a - f) × (holdsRange f n a 1 ≡ true)
+  wrapped-in h = let e : w + f ≡ a = omega arith in (omega arith, holds-yes f n a 1 (omega arith) (omega arith))
+
+  pub wrapped-out : w < 2 ^ 64 → n ≤ w → holdsRange f n a 1 ≡ false
+  wrapped-out b h = holds-not f n a 1 (λ s. omega arith)

@@ -2,7 +2,7 @@
 // Sums of addresses could wrap: addresses are compared by differences.
 ghost use mathlib.Core.Path.{_≡_};
 ghost use mathlib.Core.Bool.{true};
-ghost use Prim.Native.Nat.{_-_};
+ghost use Prim.Native.Nat.{_-_, min};
 ghost use lib.ListN.{length, take, drop};
 ghost use Rattle.memory.specs.Spans.{endsPast, shareAddress, spansRefusal};
 ghost use Rattle.memory.specs.Fetch.{holdsRange, fetchRefusal, fetched, restOf};
@@ -127,15 +127,8 @@ pub fn fetch<'a>(
     &image[..0]
 }
 
-// The bytes from `address` on, of a span that holds that address.
-fn rest_of<'a>(first: u64, bytes: &'a [u8], address: u64) -> &'a [u8]
-    requires { ⌜ holdsRange first (length (now bytes)) address 1 ≡ true ⌝ }
-    ensures { λ r. ⌜ now r ≡ drop (address - first) (now (bytes .entry)) ⌝ }
-{
-    &bytes[(address - first) as usize..]
-}
-
-// The bytes from `address` to the end of the span that holds it; none where no span does. For spans that 12 and 13 do not refuse.
+// The bytes from `address` to the end of the span that holds it; none where no span does. No span ends past 2^64, so that one comparison, of the
+// difference modulo 2^64, tells whether a span holds the address.
 pub fn rest<'a>(
     image_first: u64,
     image: &'a [u8],
@@ -143,13 +136,16 @@ pub fn rest<'a>(
     work: &'a [u8],
     address: u64,
 ) -> &'a [u8]
+    requires { ⌜ spansRefusal «image_first» (now image) «work_first» (now work) ≡ 0 ⌝ }
     ensures { λ r. ⌜ now r ≡ restOf «image_first» (now (image .entry)) «work_first» (now (work .entry)) address ⌝ }
 {
-    if holds_range(image_first, image.len() as u64, address, 1) {
-        return rest_of(image_first, image, address);
+    let in_image = std::num::wrapping_sub_u64(address, image_first);
+    if in_image < image.len() as u64 {
+        return &image[in_image as usize..];
     }
-    if holds_range(work_first, work.len() as u64, address, 1) {
-        return rest_of(work_first, work, address);
+    let in_work = std::num::wrapping_sub_u64(address, work_first);
+    if in_work < work.len() as u64 {
+        return &work[in_work as usize..];
     }
     &image[..0]
 }
@@ -161,23 +157,37 @@ pub enum Search {
     Ended(usize), // so many bytes, fewer than the size, and no zero
 }
 
-// Searches the first `size` bytes.
+// The lesser of two numbers.
+fn smaller(a: usize, b: usize) -> usize
+    ensures { λ r. ⌜ r ≡ min a b ⌝ }
+{
+    if a < b {
+        return a;
+    }
+    b
+}
+
+// Searches the first `size` bytes. The loop has one limit, so that a byte costs two tests.
 pub fn find_zero(bytes: &[u8], size: usize) -> Search
     ensures { λ r. ⌜ r ≡ searched size (now (bytes .entry)) ⌝ }
 {
+    let limit = smaller(size, bytes.len());
     let mut passed = 0;
-    let outcome = loop {
+    let length = loop {
         let next = passed + 1;
-        if passed == size {
-            break Search::Reached(passed);
-        }
-        if bytes.len() <= passed {
-            break Search::Ended(passed);
+        if limit <= passed {
+            break 0;
         }
         if bytes[passed] == 0 {
-            break Search::Found(next);
+            break next;
         }
         passed = next;
     };
-    outcome
+    if 0 < length {
+        return Search::Found(length);
+    }
+    if limit == size {
+        return Search::Reached(limit);
+    }
+    Search::Ended(limit)
 }

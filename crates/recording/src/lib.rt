@@ -103,7 +103,7 @@ pub fn record_to_zero<'a>(
     address: u64,
     size: u64,
 ) -> Recorded
-    requires { ⌜ put ≤ length (now buffer) ⌝ }
+    requires { ⌜ put ≤ length (now buffer) ⌝ ∗ ⌜ spansRefusal «image_first» (now image) «work_first» (now work) ≡ 0 ⌝ }
     ensures { λ r. ⌜ Kept (now (buffer .entry)) put (toZeroMade (fed [] [] «image_first» (now (image .entry)) «work_first» (now (work .entry))) (length (now (buffer .entry)) - put) address size) r (now (buffer .exit)) ⌝ }
 {
     if size == 0 {

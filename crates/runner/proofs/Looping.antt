@@ -15,7 +15,6 @@ use Rattle.isa.specs.Classes.{kind-end}
 use Rattle.isa.specs.Decode.{kindAt}
 use Rattle.isa.specs.Held.{held}
 use Rattle.isa.specs.Rows.{table}
-use Rattle.isa.specs.declared.Stack.{Stack}
 use Rattle.isa.proofs.Promises.{length-held}
 use Rattle.frames.specs.Record.{Record, encodeAll}
 use Rattle.frames.specs.Trailer.{trailerSize, encodeTrailer}
@@ -33,10 +32,6 @@ use Rattle.runner.specs.Returned.{refusedWith, returned, answerOf, Ran}
 use Rattle.runner.specs.declared.Value.{Value}
 use Rattle.runner.specs.declared.Outcome.the-variants.{Completed, Refused}
 
--- the stack that the code holds
-abbrev pub cellsOf : Stack → List ℕ
-cellsOf s = held (s .cells) (s .height)
-
 abbrev state : ℕ → List ℕ → List ℕ → List Record → ℕ → State
 state k s v rs n = record { offset = k; stack = s; variables = v; records = rs; steps = n }
 
@@ -52,26 +47,26 @@ follow-by m go st (leaves cells rs) true q = rw (q, onward) refl
 follow-by m go st (leaves cells rs) false q = rw (q, onward) refl
 follow-by m go st (faults n) b q = refl
 
--- what the code holds: variables v, buffer b, cells and height s, offset k, the end p of what is written, and n steps
-pub record Loop (m : Fed) (b₀ : List ℕ) (u : ℕ) (g : List ℕ) (max : ℕ) (vars v b : List ℕ) (s : Stack) (k p n : ℕ) : Type 0 where
+-- what the code holds: variables v, buffer b, cells a, height h, offset k, the end p of what is written, and n steps
+pub record Loop (m : Fed) (b₀ : List ℕ) (u : ℕ) (g : List ℕ) (max : ℕ) (vars v b : List ℕ) (a : List ℕ) (h k p n : ℕ) : Type 0 where
   pub records : List Record
-  pub walk : OnWalk (m .expression) k (cellsOf s) n
-  pub same : moves m (length b₀ - u) max (begin g) ≡ moves m (length b₀ - u) (max - n) (state k (cellsOf s) v records n)
+  pub walk : OnWalk (m .expression) k (held a h) n
+  pub same : moves m (length b₀ - u) max (begin g) ≡ moves m (length b₀ - u) (max - n) (state k (held a h) v records n)
   pub put : p ≡ u + length (encodeAll records)
   pub room : p ≤ length b₀
   pub laid : b ≡ writtenAt b₀ u (encodeAll records)
   pub within : n ≤ max
   pub given : vars ≡ g
-  pub long : length (s .cells) ≡ 64
+  pub long : length a ≡ 64
 
 module _ {m : Fed} {c₀ g₀ l₀ : ℕ} (acc : Accepted (m .expression) c₀ g₀ l₀) where
-  pub loop-start : (b₀ : List ℕ) (u : ℕ) (g : List ℕ) (max : ℕ) (s : Stack) → u ≤ length b₀ → s .height ≡ 0 → length (s .cells) ≡ 64
-      → Loop m b₀ u g max g g b₀ s 0 u 0
+  pub loop-start : (b₀ : List ℕ) (u : ℕ) (g : List ℕ) (max : ℕ) {a : List ℕ} {h : ℕ} → u ≤ length b₀ → h ≡ 0 → length a ≡ 64
+      → Loop m b₀ u g max g g b₀ a h 0 u 0
   unfolding encodeAll held
-  loop-start b₀ u g max s hu h l = record {
+  loop-start b₀ u g max hu z l = record {
     records = [];
-    walk = rw h (walk-begins acc);
-    same = rw (sub-zero, h) refl;
+    walk = rw z (walk-begins acc);
+    same = rw (sub-zero, z) refl;
     put = omega arith;
     room = hu;
     laid = sym (written-nothing b₀ u);
@@ -80,33 +75,33 @@ module _ {m : Fed} {c₀ g₀ l₀ : ℕ} (acc : Accepted (m .expression) c₀ g
     long = l;
   }
 
-module _ {m : Fed} {b₀ : List ℕ} {u : ℕ} {g : List ℕ} {max : ℕ} {vars v b : List ℕ} {s : Stack} {k p n : ℕ} (l : Loop m b₀ u g max vars v b s k p n) where
+module _ {m : Fed} {b₀ : List ℕ} {u : ℕ} {g : List ℕ} {max : ℕ} {vars v b : List ℕ} {a : List ℕ} {h k p n : ℕ} (l : Loop m b₀ u g max vars v b a h k p n) where
   pub as-long : length b ≡ length b₀
   as-long = ap length (l .laid) ∙ written-length b₀ u (encodeAll (l .records))
 
   -- one move of the machine, with the code's own count of the free bytes
   move : n < max → moves m (length b₀ - u) max (begin g)
-      ≡ follow (moves m (length b₀ - u) (max - (n + 1))) (state k (cellsOf s) v (l .records) n)
-      (effect m k (cellsOf s) v (length b - p))
+      ≡ follow (moves m (length b₀ - u) (max - (n + 1))) (state k (held a h) v (l .records) n)
+      (effect m k (held a h) v (length b - p))
   unfolding moves effect
   move lt =
       let e : max - n ≡ suc (max - (n + 1)) = omega arith in
       let f : length b₀ - u - length (encodeAll (l .records)) ≡ length b - p = omega (arith, l .put, as-long) in
-      l .same ∙ rw (e, f) (follow-by m (moves m (length b₀ - u) (max - (n + 1))) (state k (cellsOf s) v (l .records) n)
-      (done m k (cellsOf s) v (length b - p)) (eqb (kindAt (m .expression) k) kind-end) refl)
+      l .same ∙ rw (e, f) (follow-by m (moves m (length b₀ - u) (max - (n + 1))) (state k (held a h) v (l .records) n)
+      (done m k (held a h) v (length b - p)) (eqb (kindAt (m .expression) k) kind-end) refl)
 
-  followed : n < max → {e : Effect} → effect m k (cellsOf s) v (length b - p) ≡ e → moves m (length b₀ - u) max (begin g) ≡ follow (moves m (length b₀ - u) (max - (n + 1))) (state k (cellsOf s) v (l .records) n) e
-  followed lt q = move lt ∙ ap (follow (moves m (length b₀ - u) (max - (n + 1))) (state k (cellsOf s) v (l .records) n)) q
+  followed : n < max → {e : Effect} → effect m k (held a h) v (length b - p) ≡ e → moves m (length b₀ - u) max (begin g) ≡ follow (moves m (length b₀ - u) (max - (n + 1))) (state k (held a h) v (l .records) n) e
+  followed lt q = move lt ∙ ap (follow (moves m (length b₀ - u) (max - (n + 1))) (state k (held a h) v (l .records) n)) q
 
 -- ---- what acceptance says where the loop stands
-module _ {m : Fed} {c₀ g₀ l₀ : ℕ} (acc : Accepted (m .expression) c₀ g₀ l₀) {b₀ : List ℕ} {u : ℕ} {g : List ℕ} {max : ℕ} {vars v b : List ℕ} {s : Stack} {k p n : ℕ}
-    (l : Loop m b₀ u g max vars v b s k p n) where
-  at-hand : Ready (m .expression) l₀ (l .walk .list) k (length (cellsOf s))
+module _ {m : Fed} {c₀ g₀ l₀ : ℕ} (acc : Accepted (m .expression) c₀ g₀ l₀) {b₀ : List ℕ} {u : ℕ} {g : List ℕ} {max : ℕ} {vars v b : List ℕ} {a : List ℕ} {h k p n : ℕ}
+    (l : Loop m b₀ u g max vars v b a h k p n) where
+  at-hand : Ready (m .expression) l₀ (l .walk .list) k (length (held a h))
   at-hand = walk-ready acc (l .walk)
 
-  pub place : {rows : List (List ℕ)} → rows ≡ table → Place rows (m .expression) (s .cells) k (s .height)
+  pub place : {rows : List (List ℕ)} → rows ≡ table → Place rows (m .expression) a k h
   place q =
-      let r : Ready (m .expression) l₀ (l .walk .list) k (s .height) = rw (length-held (s .cells) (s .height)) at at-hand in
+      let r : Ready (m .expression) l₀ (l .walk .list) k h = rw (length-held a h) at at-hand in
       record {
         table-is = q;
         long = l .long;
@@ -120,43 +115,43 @@ module _ {m : Fed} {c₀ g₀ l₀ : ℕ} (acc : Accepted (m .expression) c₀ g
         room = r .room;
       }
 
-  pub low : s .height ≤ 64
-  low = omega (arith, at-hand .low, length-held (s .cells) (s .height))
+  pub low : h ≤ 64
+  low = omega (arith, at-hand .low, length-held a h)
 
   -- what went on stands on a walk again
-  goes-walk : (d : Done) → done m k (cellsOf s) v (length b - p) ≡ d → (z : Bool) → eqb (kindAt (m .expression) k) kind-end ≡ z
-      → {i : ℕ} {t w : List ℕ} {rs : List Record} → effectOf (m .expression) k (cellsOf s) v d ≡ goes i t w rs → OnWalk (m .expression) i t (n + 1)
+  goes-walk : (d : Done) → done m k (held a h) v (length b - p) ≡ d → (z : Bool) → eqb (kindAt (m .expression) k) kind-end ≡ z
+      → {i : ℕ} {t w : List ℕ} {rs : List Record} → effectOf (m .expression) k (held a h) v d ≡ goes i t w rs → OnWalk (m .expression) i t (n + 1)
   goes-walk (leaves cells qs) e true z q = absurd (let y : _≡_ {A = ℕ} 0 1 = cc (rw z at q) in omega arith)
   goes-walk (leaves cells qs) e false z {i} {t} {w} {rs} q =
-      let o : goes (offsetAfter (m .expression) k (cellsOf s)) (stackAfter (m .expression) k (cellsOf s) cells)
-      (variablesAfter (m .expression) k (cellsOf s) v) qs ≡ goes i t w rs = rw z at q in
-      let oi : offsetAfter (m .expression) k (cellsOf s) ≡ i = cc in
-      let ot : stackAfter (m .expression) k (cellsOf s) cells ≡ t = cc in
+      let o : goes (offsetAfter (m .expression) k (held a h)) (stackAfter (m .expression) k (held a h) cells)
+      (variablesAfter (m .expression) k (held a h) v) qs ≡ goes i t w rs = rw z at q in
+      let oi : offsetAfter (m .expression) k (held a h) ≡ i = cc in
+      let ot : stackAfter (m .expression) k (held a h) cells ≡ t = cc in
       rw (oi, ot) at (walk-moves m acc (l .walk) v (length b - p) e (eqb-false (kindAt (m .expression) k) kind-end z))
   goes-walk (faults x) e z y q = absurd (let y : _≡_ {A = ℕ} 0 1 = cc in omega arith)
 
   -- a refusal met while stepping is 17 or more
-  refuses-high : (d : Done) → done m k (cellsOf s) v (length b - p) ≡ d → (z : Bool) → eqb (kindAt (m .expression) k) kind-end ≡ z
-      → {x : ℕ} → effectOf (m .expression) k (cellsOf s) v d ≡ refuses x → 17 ≤ x
+  refuses-high : (d : Done) → done m k (held a h) v (length b - p) ≡ d → (z : Bool) → eqb (kindAt (m .expression) k) kind-end ≡ z
+      → {x : ℕ} → effectOf (m .expression) k (held a h) v d ≡ refuses x → 17 ≤ x
   refuses-high (leaves cells qs) e true z q = absurd (let y : _≡_ {A = ℕ} 0 1 = cc (rw z at q) in omega arith)
   refuses-high (leaves cells qs) e false z q = absurd (let y : _≡_ {A = ℕ} 0 1 = cc (rw z at q) in omega arith)
   refuses-high (faults x′) e z y {x} q = let o : x′ ≡ x = cc in omega (arith, walk-faults m acc (l .walk) v (length b - p) e)
 
   -- what completes has room for the trailer
-  completes-room : (d : Done) → done m k (cellsOf s) v (length b - p) ≡ d → (z : Bool) → eqb (kindAt (m .expression) k) kind-end ≡ z
-      → effectOf (m .expression) k (cellsOf s) v d ≡ completes → trailerSize ≤ length b - p
-  completes-room (leaves cells qs) e true z q = end-room (sym (end-done m k (cellsOf s) v (length b - p) (eqb-true (kindAt (m .expression) k) kind-end z)) ∙ e)
+  completes-room : (d : Done) → done m k (held a h) v (length b - p) ≡ d → (z : Bool) → eqb (kindAt (m .expression) k) kind-end ≡ z
+      → effectOf (m .expression) k (held a h) v d ≡ completes → trailerSize ≤ length b - p
+  completes-room (leaves cells qs) e true z q = end-room (sym (end-done m k (held a h) v (length b - p) (eqb-true (kindAt (m .expression) k) kind-end z)) ∙ e)
   completes-room (leaves cells qs) e false z q = absurd (let y : _≡_ {A = ℕ} 0 1 = cc (rw z at q) in omega arith)
   completes-room (faults x) e z y q = absurd (let y : _≡_ {A = ℕ} 0 1 = cc in omega arith)
 
 -- ---- a turn, and each way out. The step gave r, the cells c, the variables v′ and the buffer b′.
-module _ {m : Fed} {c₀ g₀ l₀ : ℕ} (acc : Accepted (m .expression) c₀ g₀ l₀) {b₀ : List ℕ} {u : ℕ} {g : List ℕ} {max : ℕ} {vars v b : List ℕ} {s : Stack} {k p n : ℕ}
-    (l : Loop m b₀ u g max vars v b s k p n) (lt : n < max) {r : Next} {c v′ b′ : List ℕ} where
-  turn-by : (e : Effect) → effect m k (cellsOf s) v (length b - p) ≡ e → Did k (cellsOf s) v b p e r c v′ b′ → r .stop ≡ 0 → Loop m b₀ u g max vars v′ b′ (record { cells = c; height = r .height }) (r .at) (r .put) (n + 1)
+module _ {m : Fed} {c₀ g₀ l₀ : ℕ} (acc : Accepted (m .expression) c₀ g₀ l₀) {b₀ : List ℕ} {u : ℕ} {g : List ℕ} {max : ℕ} {vars v b : List ℕ} {a : List ℕ} {h k p n : ℕ}
+    (l : Loop m b₀ u g max vars v b a h k p n) (lt : n < max) {r : Next} {c v′ b′ : List ℕ} where
+  turn-by : (e : Effect) → effect m k (held a h) v (length b - p) ≡ e → Did k (held a h) v b p e r c v′ b′ → r .stop ≡ 0 → Loop m b₀ u g max vars v′ b′ c (r .height) (r .at) (r .put) (n + 1)
   unfolding effect
-  turn-by (goes i t w rs) q d h = record {
+  turn-by (goes i t w rs) q d o = record {
     records = l .records ++ rs;
-    walk = rw (d .at, d .stack) (goes-walk acc l (done m k (cellsOf s) v (length b - p)) refl (eqb (kindAt (m .expression) k) kind-end) refl q);
+    walk = rw (d .at, d .stack) (goes-walk acc l (done m k (held a h) v (length b - p)) refl (eqb (kindAt (m .expression) k) kind-end) refl q);
     same = rw (d .at, d .stack, d .variables) (followed l lt q);
     put = omega (arith, d .put, l .put, ap length (encode-all-append (l .records) rs), length-append (encodeAll (l .records)) (encodeAll rs));
     room = omega (arith, d .room, as-long l);
@@ -165,41 +160,42 @@ module _ {m : Fed} {c₀ g₀ l₀ : ℕ} (acc : Accepted (m .expression) c₀ g
     given = l .given;
     long = d .long;
   }
-  turn-by completes q d h = absurd (omega (arith, d .stop))
-  turn-by (refuses x) q d h = absurd (omega (arith, d .stop, refuses-high acc l (done m k (cellsOf s) v (length b - p)) refl (eqb (kindAt (m .expression) k) kind-end) refl q))
+  turn-by completes q d o = absurd (omega (arith, d .stop))
+  turn-by (refuses x) q d o = absurd (omega (arith, d .stop, refuses-high acc l (done m k (held a h) v (length b - p)) refl (eqb (kindAt (m .expression) k) kind-end) refl q))
 
   -- room for the trailer, and for the cells
-  room-by : (e : Effect) → effect m k (cellsOf s) v (length b - p) ≡ e → Did k (cellsOf s) v b p e r c v′ b′ → r .stop ≡ 1 → (u ≤ p) × (p + trailerSize ≤ length b′) × (length b′ ≡ length b₀) × (r .height ≤ 64)
+  room-by : (e : Effect) → effect m k (held a h) v (length b - p) ≡ e → Did k (held a h) v b p e r c v′ b′ → r .stop ≡ 1 → (u ≤ r .put) × (r .put + trailerSize ≤ length b′) × (length b′ ≡ length b₀) × (r .height ≤ 64)
   unfolding effect encodeAll
-  room-by completes q d h =
+  room-by completes q d o =
       let z : length b′ ≡ length b = ap length (d .buffer ∙ written-nothing b p) in
-      let y : s .height ≡ r .height = sym (length-held (s .cells) (s .height)) ∙ ap length (sym (d .stack)) ∙ length-held c (r .height) in
-      let f = completes-room acc l (done m k (cellsOf s) v (length b - p)) refl (eqb (kindAt (m .expression) k) kind-end) refl q in
-      (omega (arith, l .put), omega (arith, f, z), omega (arith, z, as-long l), omega (arith, y, low acc l))
-  room-by (goes i t w rs) q d h = absurd (omega (arith, d .stop))
-  room-by (refuses x) q d h = absurd (omega (arith, d .stop, refuses-high acc l (done m k (cellsOf s) v (length b - p)) refl (eqb (kindAt (m .expression) k) kind-end) refl q))
+      let y : h ≡ r .height = sym (length-held a h) ∙ ap length (sym (d .stack)) ∙ length-held c (r .height) in
+      let f = completes-room acc l (done m k (held a h) v (length b - p)) refl (eqb (kindAt (m .expression) k) kind-end) refl q in
+      (omega (arith, d .put, l .put), omega (arith, d .put, f, z), omega (arith, z, as-long l), omega (arith, y, low acc l))
+  room-by (goes i t w rs) q d o = absurd (omega (arith, d .stop))
+  room-by (refuses x) q d o = absurd (omega (arith, d .stop, refuses-high acc l (done m k (held a h) v (length b - p)) refl (eqb (kindAt (m .expression) k) kind-end) refl q))
 
-  ends-by : (e : Effect) → effect m k (cellsOf s) v (length b - p) ≡ e → Did k (cellsOf s) v b p e r c v′ b′ → r .stop ≡ 1 → (t : ℕ) {x : List ℕ} {z : Value} → x ≡ writtenAt b′ p (encodeTrailer t (p - u))
-      → answerOf z ≡ answer (held c (r .height)) → Ran t g b₀ u (moves m (length b₀ - u) max (begin g)) (Completed z (n + 1) (p + trailerSize)) v′ x
+  ends-by : (e : Effect) → effect m k (held a h) v (length b - p) ≡ e → Did k (held a h) v b p e r c v′ b′ → r .stop ≡ 1 → (t : ℕ) {x : List ℕ} {z : Value} → x ≡ writtenAt b′ (r .put) (encodeTrailer t (r .put - u))
+      → answerOf z ≡ answer (held c (r .height)) → Ran t g b₀ u (moves m (length b₀ - u) max (begin g)) (Completed z (n + 1) (r .put + trailerSize)) v′ x
   unfolding effect encodeAll leftBytes returned usedOf variablesOf bufferOf
-  ends-by completes q d h t {x} {z} hx hz =
+  ends-by completes q d one t {x} {z} hx hz =
+      let o : r .put ≡ p = omega (arith, d .put) in
       let y : p - u ≡ length (encodeAll (l .records)) = omega (arith, l .put) in
       let j = length-append (encodeAll (l .records)) (encodeTrailer t (length (encodeAll (l .records)))) in
       let i = trailer-length t (length (encodeAll (l .records))) in
       let w : p + trailerSize ≡ u + length (encodeAll (l .records) ++ encodeTrailer t (length (encodeAll (l .records)))) = omega (arith, l .put) in
-      let a : answerOf z ≡ answer (cellsOf s) = hz ∙ ap answer (d .stack) in
-      rw (followed l lt q) (record {
+      let a : answerOf z ≡ answer (held a h) = hz ∙ ap answer (d .stack) in
+      rw (followed l lt q, o) (record {
         answer = cc;
         variables = d .variables;
-        buffer = hx ∙ rw (d .buffer, written-nothing, y, l .laid, l .put, written-more) refl;
+        buffer = hx ∙ rw (o, d .buffer, written-nothing, y, l .laid, l .put, written-more) refl;
       })
-  ends-by (goes i t′ w rs) q d h t hx hz = absurd (omega (arith, d .stop))
-  ends-by (refuses x) q d h t hx hz = absurd (omega (arith, d .stop, refuses-high acc l (done m k (cellsOf s) v (length b - p)) refl (eqb (kindAt (m .expression) k) kind-end) refl q))
+  ends-by (goes i t′ w rs) q d o t hx hz = absurd (omega (arith, d .stop))
+  ends-by (refuses x) q d o t hx hz = absurd (omega (arith, d .stop, refuses-high acc l (done m k (held a h) v (length b - p)) refl (eqb (kindAt (m .expression) k) kind-end) refl q))
 
-  halts-by : (e : Effect) → effect m k (cellsOf s) v (length b - p) ≡ e → Did k (cellsOf s) v b p e r c v′ b′ → r .stop ≢ 0 → r .stop ≢ 1 → (t : ℕ)
-      → Ran t g b₀ u (moves m (length b₀ - u) max (begin g)) (Refused (r .stop) k n) vars b′
+  halts-by : (e : Effect) → effect m k (held a h) v (length b - p) ≡ e → Did k (held a h) v b p e r c v′ b′ → r .stop ≢ 0 → r .stop ≢ 1 → (t : ℕ)
+      → Ran t g b₀ u (moves m (length b₀ - u) max (begin g)) (Refused (r .stop) (r .at) n) vars b′
   unfolding effect encodeAll leftBytes returned usedOf variablesOf bufferOf
-  halts-by (refuses x) q d h0 h1 t = rw (followed l lt q) (record {
+  halts-by (refuses x) q d h0 h1 t = rw (followed l lt q, d .at) (record {
     answer = ap (λ (y : ℕ). refusedWith y k n) (d .stop);
     variables = l .given;
     buffer = d .buffer ∙ written-nothing b p ∙ l .laid;
@@ -207,22 +203,22 @@ module _ {m : Fed} {c₀ g₀ l₀ : ℕ} (acc : Accepted (m .expression) c₀ g
   halts-by (goes i t′ w rs) q d h0 h1 t = absurd (h0 (d .stop))
   halts-by completes q d h0 h1 t = absurd (h1 (d .stop))
 
-  module _ (d : Did k (cellsOf s) v b p (effect m k (cellsOf s) v (length b - p)) r c v′ b′) where
-    pub turn : r .stop ≡ 0 → Loop m b₀ u g max vars v′ b′ (record { cells = c; height = r .height }) (r .at) (r .put) (n + 1)
-    turn = turn-by (effect m k (cellsOf s) v (length b - p)) refl d
+  module _ (d : Did k (held a h) v b p (effect m k (held a h) v (length b - p)) r c v′ b′) where
+    pub turn : r .stop ≡ 0 → Loop m b₀ u g max vars v′ b′ c (r .height) (r .at) (r .put) (n + 1)
+    turn = turn-by (effect m k (held a h) v (length b - p)) refl d
 
-    pub room-left : r .stop ≡ 1 → (u ≤ p) × (p + trailerSize ≤ length b′) × (length b′ ≡ length b₀) × (r .height ≤ 64)
-    room-left = room-by (effect m k (cellsOf s) v (length b - p)) refl d
+    pub room-left : r .stop ≡ 1 → (u ≤ r .put) × (r .put + trailerSize ≤ length b′) × (length b′ ≡ length b₀) × (r .height ≤ 64)
+    room-left = room-by (effect m k (held a h) v (length b - p)) refl d
 
-    pub ends : r .stop ≡ 1 → (t : ℕ) {x : List ℕ} {z : Value} → x ≡ writtenAt b′ p (encodeTrailer t (p - u)) → answerOf z ≡ answer (held c (r .height))
-        → Ran t g b₀ u (moves m (length b₀ - u) max (begin g)) (Completed z (n + 1) (p + trailerSize)) v′ x
-    ends = ends-by (effect m k (cellsOf s) v (length b - p)) refl d
+    pub ends : r .stop ≡ 1 → (t : ℕ) {x : List ℕ} {z : Value} → x ≡ writtenAt b′ (r .put) (encodeTrailer t (r .put - u)) → answerOf z ≡ answer (held c (r .height))
+        → Ran t g b₀ u (moves m (length b₀ - u) max (begin g)) (Completed z (n + 1) (r .put + trailerSize)) v′ x
+    ends = ends-by (effect m k (held a h) v (length b - p)) refl d
 
-    pub halts : r .stop ≢ 0 → r .stop ≢ 1 → (t : ℕ) → Ran t g b₀ u (moves m (length b₀ - u) max (begin g)) (Refused (r .stop) k n) vars b′
-    halts = halts-by (effect m k (cellsOf s) v (length b - p)) refl d
+    pub halts : r .stop ≢ 0 → r .stop ≢ 1 → (t : ℕ) → Ran t g b₀ u (moves m (length b₀ - u) max (begin g)) (Refused (r .stop) (r .at) n) vars b′
+    halts = halts-by (effect m k (held a h) v (length b - p)) refl d
 
 -- ---- the allowance is spent
-module _ {m : Fed} {b₀ : List ℕ} {u : ℕ} {g : List ℕ} {max : ℕ} {vars v b : List ℕ} {s : Stack} {k p n : ℕ} (l : Loop m b₀ u g max vars v b s k p n) where
+module _ {m : Fed} {b₀ : List ℕ} {u : ℕ} {g : List ℕ} {max : ℕ} {vars v b : List ℕ} {a : List ℕ} {h k p n : ℕ} (l : Loop m b₀ u g max vars v b a h k p n) where
   pub spent : max ≤ n → (t : ℕ) → Ran t g b₀ u (moves m (length b₀ - u) max (begin g)) (Refused 16 k n) vars b
   unfolding moves leftBytes returned usedOf variablesOf bufferOf
   spent h t =

@@ -55,6 +55,7 @@ fn close_frame(buffer: &mut [u8], put: usize, tracepoint: u16, size: usize)
 }
 
 // A run of an accepted expression on inputs that 12 to 15 allow. The variables are copied, and written back on completion alone.
+// Where a step stops, its answer has the offset and the end of what is written as they were: so they are taken before `stop` is tested.
 fn run_accepted<'a>(
     rows: &[[u8; 4]; 53],
     code: &[u8],
@@ -74,12 +75,11 @@ fn run_accepted<'a>(
 {
     let mut own = *variables;
     let mut stack = Stack::empty();
+    let mut height = stack.height;
     let mut at = 0;
     let mut put = used;
     let mut steps = 0;
     while steps < allowance {
-        let counted = steps + 1;
-        let height = stack.height;
         let next = stepping::step(
             rows,
             code,
@@ -95,19 +95,20 @@ fn run_accepted<'a>(
             height,
             put,
         );
+        at = next.at;
+        height = next.height;
+        put = next.put;
         if next.stop != 0 {
+            let counted = steps + 1;
             if next.stop == 1 {
-                let value = value_of(&stack.cells, next.height);
+                let value = value_of(&stack.cells, height);
                 close_frame(buffer, put, tracepoint, put - used);
                 *variables = own;
                 return Outcome::Completed(value, counted, put + frames::trailer::TRAILER_SIZE);
             }
             return Outcome::Refused(next.stop, at, steps);
         }
-        at = next.at;
-        stack.height = next.height;
-        put = next.put;
-        steps = counted;
+        steps += 1;
     }
     Outcome::Refused(16, at, steps)
 }
@@ -140,58 +141,8 @@ fn inputs_refusal(
     0
 }
 
-// A run with the instruction table lent.
-fn run_by<'a>(
-    rows: &[[u8; 4]; 53],
-    code: &[u8],
-    registers: &[u64],
-    image_first: u64,
-    image: &'a [u8],
-    work_first: u64,
-    work: &'a [u8],
-    variables: &mut [u64; 64],
-    buffer: &mut [u8],
-    used: usize,
-    tracepoint: u16,
-    allowance: u64,
-) -> Outcome
-    requires { ⌜ now rows ≡ table ⌝ }
-    ensures { λ r. ⌜ Ran tracepoint (now (variables .entry)) (now (buffer .entry)) used (ended (fed (now (code .entry)) (now (registers .entry)) «image_first» (now (image .entry)) «work_first» (now (work .entry))) (now (variables .entry)) (now (buffer .entry)) used allowance) r (now (variables .exit)) (now (buffer .exit)) ⌝ }
-{
-    match verifier::verify_by(rows, code) {
-        Answer::Refused(number, offset) => Outcome::Refused(number, offset, 0),
-        Answer::Accepted(count, greatest, longest) => {
-            let refusal = inputs_refusal(
-                registers,
-                image_first,
-                image,
-                work_first,
-                work,
-                buffer,
-                used,
-            );
-            if refusal != 0 {
-                return Outcome::Refused(refusal, 0, 0);
-            }
-            run_accepted(
-                rows,
-                code,
-                registers,
-                image_first,
-                image,
-                work_first,
-                work,
-                variables,
-                buffer,
-                used,
-                tracepoint,
-                allowance,
-            )
-        }
-    }
-}
-
 // Verifies the expression, checks the inputs, and runs it: at most `allowance` instructions.
+// The loop has a table of its own, which no opcode that varies is looked up in: so the compiler knows each row that an arm reads.
 pub fn run<'a>(
     code: &[u8],
     registers: &[u64],
@@ -207,20 +158,37 @@ pub fn run<'a>(
 ) -> Outcome
     ensures { λ r. ⌜ Ran tracepoint (now (variables .entry)) (now (buffer .entry)) used (ended (fed (now (code .entry)) (now (registers .entry)) «image_first» (now (image .entry)) «work_first» (now (work .entry))) (now (variables .entry)) (now (buffer .entry)) used allowance) r (now (variables .exit)) (now (buffer .exit)) ⌝ }
 {
-    run_by(
-        &isa::ROWS,
-        code,
-        registers,
-        image_first,
-        image,
-        work_first,
-        work,
-        variables,
-        buffer,
-        used,
-        tracepoint,
-        allowance,
-    )
+    match verifier::verify(code) {
+        Answer::Refused(number, offset) => Outcome::Refused(number, offset, 0),
+        Answer::Accepted(count, greatest, longest) => {
+            let refusal = inputs_refusal(
+                registers,
+                image_first,
+                image,
+                work_first,
+                work,
+                buffer,
+                used,
+            );
+            if refusal != 0 {
+                return Outcome::Refused(refusal, 0, 0);
+            }
+            run_accepted(
+                &isa::ROWS,
+                code,
+                registers,
+                image_first,
+                image,
+                work_first,
+                work,
+                variables,
+                buffer,
+                used,
+                tracepoint,
+                allowance,
+            )
+        }
+    }
 }
 
 // The same without an allowance given.

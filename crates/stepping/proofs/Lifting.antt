@@ -223,3 +223,8 @@ unsupported-else op h =
 
 pub none-left {ℓ} : {X : Type ℓ} (op : ℕ) → NoneOf44 op → kind-unsupported < kind (classOf op) → X
 none-left op h l = absurd (omega (arith, unsupported-else op h))
+
+-- nor is 0x00 supported
+pub not-zero {ℓ} : {X : Type ℓ} (op : ℕ) → op ≡ 0x00 → kind-unsupported < kind (classOf op) → X
+unfolding classOf opcodes
+not-zero op q l = absurd (let z : kind-unsupported < kind (classOf 0x00) = rw q at l in omega arith)

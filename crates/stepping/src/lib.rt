@@ -1,4 +1,5 @@
 // One step of the machine: the instruction at an offset, by one arm for each opcode. The arm names the opcode, so that its row is known when this is compiled.
+// No expression that is accepted has the opcodes of the last two arms. 0x00 has one of its own, so that the jump table begins at 0.
 ghost use mathlib.Core.Path.{_≡_};
 ghost use Prim.Native.Nat.{_-_, _≤_};
 ghost use lib.ListN.{length};
@@ -198,11 +199,17 @@ pub fn step<'a>(
         0x2b => operations::do_swap(rows, code, cells, at, height, put),
         0x32 => operations::do_pick(rows, code, cells, at, height, put),
         0x33 => operations::do_rot(rows, code, cells, at, height, put),
-        _ => Next {
+        0x00 => Next {
             at,
             height,
             put,
             stop: 2,
+        },
+        _ => Next {
+            at,
+            height,
+            put,
+            stop: 3,
         },
     }
 }

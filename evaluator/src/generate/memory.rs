@@ -217,16 +217,34 @@ fn near(random: &mut Random) -> ([Span; 2], u64) {
     (spans(random, layout), address)
 }
 
-pub fn near_fetch(random: &mut Random) -> Case {
+fn near_range(random: &mut Random) -> ([Span; 2], u64, u64) {
     let (spans, address) = near(random);
     let short = random.below(5) as u64;
     let huge = random.choose(&[HALF, short.wrapping_neg(), address.wrapping_neg()]);
     let size = random.choose(&[short, short, short, short, huge]);
+    (spans, address, size)
+}
+
+pub fn near_fetch(random: &mut Random) -> Case {
+    let (spans, address, size) = near_range(random);
     Case::Fetch {
         spans,
         address,
         size,
     }
+}
+
+/// A range on one of the layouts, or near two short spans.
+pub fn any_range(random: &mut Random) -> ([Span; 2], u64, u64) {
+    let layouts = match random.below(6) {
+        0 => &FAULTY[..],
+        1 | 2 => &SOUND[..],
+        _ => return near_range(random),
+    };
+    let layout = random.choose(layouts);
+    let layout = random.choose(&each_first(layout));
+    let (address, size) = random.choose(&ranges(layout));
+    (spans(random, layout), address, size)
 }
 
 pub fn near_rest(random: &mut Random) -> Case {

@@ -8,7 +8,7 @@ use crate::leaf;
 use crate::machine;
 use crate::random::Random;
 use crate::reads::{Asked, Buffer, Case};
-use std::ops::RangeInclusive;
+use std::ops::{Range, RangeInclusive};
 
 /// Frame numbers, record numbers and used lengths that no buffer comes to.
 const HUGE: [u64; 5] = [1 << 16, 1 << 32, (1 << 32) + 1, 1 << 63, u64::MAX];
@@ -35,8 +35,8 @@ pub fn cases(family: impl Fn(u64) -> Random) -> Vec<leaf::Case> {
 }
 
 /// Frames laid end to end, the oldest first.
-#[derive(Clone)]
-struct Frames {
+#[derive(Clone, Default)]
+pub struct Frames {
     bytes: Vec<u8>,
     /// Where each of them ends.
     ends: Vec<usize>,
@@ -49,6 +49,14 @@ impl Frames {
             bytes: frames.concat(),
             ends: ends.collect(),
         }
+    }
+
+    /// Without these bytes; the ends behind them move.
+    fn leave_out(&mut self, part: Range<usize>) {
+        for end in self.ends.iter_mut().filter(|end| **end > part.start) {
+            *end -= part.len().min(*end - part.start);
+        }
+        self.bytes.drain(part);
     }
 
     /// Its number, counted from the newest.
@@ -486,6 +494,12 @@ fn sequence(random: &mut Random, count: usize, sizes: RangeInclusive<u64>) -> Se
     made
 }
 
+/// The length of a frame with these records.
+fn length(records: &[Record]) -> usize {
+    let lengths = records.iter().map(|record| encode(record).len());
+    lengths.sum::<usize>() + TRAILER
+}
+
 /// Every frame and every record of it, how many there are, one past the last of
 /// each, and every step of a walk.
 fn read_back(random: &mut Random) -> Vec<Case> {
@@ -500,14 +514,97 @@ fn read_back(random: &mut Random) -> Vec<Case> {
             asked.extend([step(place), count(used, frame)]);
             let numbers = 0..=records.len() as u64;
             asked.extend(numbers.map(|record| read(used, frame, record)));
-            let lengths = records.iter().map(|record| encode(record).len());
-            place -= (lengths.sum::<usize>() + TRAILER) as u64;
+            place -= length(records) as u64;
         }
         let past = made.frames.len() as u64;
         asked.extend([step(place), count(used, past), locate(used, past - 1)]);
         cases.extend(each(&Buffer::of(&made.buffer), &asked));
     }
     cases
+}
+
+/// Up to 5 frames, laid out here or written by runs.
+pub fn any_frames(random: &mut Random) -> Frames {
+    let count = random.choose(&[0, 1, 2, 3, 4, 5, 5, 5]);
+    if random.chance(1, 4) {
+        let made = sequence(random, count, 8..=300);
+        let lengths = made.frames.iter().map(|(_, records)| length(records));
+        let ends = lengths.scan(0, |end, length| {
+            *end += length;
+            Some(*end)
+        });
+        return Frames {
+            ends: ends.collect(),
+            bytes: made.buffer,
+        };
+    }
+    let frames = (0..count).map(|_| {
+        let records = random.choose(&[0, 1, 2, 3, 3, 8]);
+        frame(random, records)
+    });
+    Frames::of(&frames.collect::<Vec<_>>())
+}
+
+/// Any question about these frames or damaged ones.
+pub fn any(random: &mut Random, frames: &Frames) -> Case {
+    if random.chance(1, 1_000) {
+        let all = large(random);
+        return all[random.below(all.len())].clone();
+    }
+    if random.chance(1, 8) {
+        return garbage(random);
+    }
+    let mut frames = frames.clone();
+    for _ in 0..random.choose(&[0, 0, 0, 0, 1, 1, 1, 2]) {
+        damage(random, &mut frames);
+    }
+    let count = frames.ends.len();
+    let older = random.below(count + 1);
+    let last = random.choose(&[count, count, count, older]);
+    let end = last.checked_sub(1).map_or(0, |place| frames.ends[place]);
+    let about = near_or_huge(random, frames.bytes.len() + 3);
+    let used = match random.chance(1, 8) {
+        true => about,
+        false => end as u64,
+    };
+    let more = random.choose(&[0, 0, 0, 0, 2]);
+    let frame = near_or_huge(random, last.max(1) + more);
+    let record = near_or_huge(random, 3);
+    frames.ask(read(used, frame, record))
+}
+
+/// A number below `bound`, or in one of 16 cases one that no buffer comes to.
+fn near_or_huge(random: &mut Random, bound: usize) -> u64 {
+    let near = random.below(bound) as u64;
+    match random.chance(1, 16) {
+        true => random.choose(&HUGE),
+        false => near,
+    }
+}
+
+/// Changes a byte, often by one, or takes one away, or cuts the bytes; mostly in
+/// a trailer or in the mark, number or length of a frame's first record.
+fn damage(random: &mut Random, frames: &mut Frames) {
+    let length = frames.bytes.len();
+    if length == 0 {
+        return;
+    }
+    let start = random.choose(&[&[0], &frames.ends[..]].concat());
+    let in_trailer = start.saturating_sub(random.between(1, TRAILER));
+    let any = random.below(VARIABLE);
+    let in_record = start + random.choose(&[0, 1, 1, 9, 9, 10, any]);
+    let any = random.below(length);
+    let place = random.choose(&[in_trailer, in_record, in_record, any]);
+    let place = place.min(length - 1);
+    let byte = &mut frames.bytes[place];
+    match random.below(10) {
+        0 | 1 => *byte = byte.wrapping_add(1),
+        2 | 3 => *byte = byte.wrapping_sub(1),
+        4 => *byte ^= 1 << random.below(8),
+        5..=7 => *byte = random.choose(&[0x00, 0x01, 0x40, 0x40, 0x46, 0x4d, 0x56, 0xff]),
+        8 => frames.leave_out(place..place + 1),
+        _ => frames.leave_out(place..length),
+    }
 }
 
 #[cfg(test)]

@@ -139,27 +139,42 @@ fn mutated(random: &mut Random) -> Case {
     case
 }
 
+/// Many phrases; some expressions come out longer than 1,024 bytes.
+fn long(random: &mut Random) -> Case {
+    let mut case = scene::scene(random);
+    let count = random.between(30, 70);
+    let mut writer = Writer::new(random, &case);
+    writer.phrases(count);
+    case.expression = writer.finish();
+    limits::roomy(random, &mut case);
+    case
+}
+
+/// A case of a kind that goes round with `number`. Long expressions and large
+/// spans are seldom.
+pub fn any(random: &mut Random, number: usize) -> Case {
+    match number % 12 {
+        0 => before::unsound(random, number / 12),
+        1 => before::unaccepted(random, number / 12),
+        2 => mutated(random),
+        3 => wild(random),
+        4 => tight(random),
+        5 => scarce(random),
+        6 | 7 => faulty(random, number / 6),
+        8 => zeros::short(random),
+        9 if number % 600 == 9 => large(random),
+        9 if number % 600 == 21 => long(random),
+        9 if number % 240 == 33 => before::length(random, number / 240),
+        9 if number % 120 == 45 => directed::full_stack(random),
+        _ => general(random),
+    }
+}
+
 #[cfg(test)]
-pub mod tests {
+mod tests {
     use super::*;
     use crate::machine;
     use crate::verify::verify;
-
-    /// A case of a kind that goes round with `number`. Large spans are seldom.
-    pub fn any(random: &mut Random, number: usize) -> Case {
-        match number % 12 {
-            0 => before::unsound(random, number / 12),
-            1 => before::unaccepted(random, number / 12),
-            2 => mutated(random),
-            3 => wild(random),
-            4 => tight(random),
-            5 => scarce(random),
-            6 | 7 => faulty(random, number / 6),
-            8 => zeros::short(random),
-            9 if number % 600 == 9 => large(random),
-            _ => general(random),
-        }
-    }
 
     #[test]
     fn phrases_are_accepted_and_mostly_completed() {

@@ -1,6 +1,4 @@
 //! A unit's firmware in small: the program of examples/c, from Rust. Both print the same.
-mod lilivrez;
-
 use lilivrez::{Record, Refused, Span, Target, TraceBuffer, Value, Walker};
 
 const TRACEPOINT: u16 = 7;

@@ -8,7 +8,7 @@ use Rattle.recording.proofs.record_to_zero.Statement.{statement}
 use Rattle.recording.proofs.record_to_zero.Tie as tie
 
 returns : tie.Need-returns
-returns c = kept-none (zero-none _ _ _ _ (c .if1 .taken)) (c .before .before .before .before .pre) refl refl
+returns c = kept-none (zero-none _ _ _ _ (c .if1 .taken)) (c .before .before .before .before .pre .0) refl refl
 
 rest-requires : tie.Need-rest-requires
 rest-requires c κs = search needs
@@ -31,7 +31,7 @@ record-bytes-requires : tie.Need-record-bytes-requires
 record-bytes-requires c κs =
     let k = c .before .before .before in let f = k .before .before in let l = f .before in let r = l .before in let i = r .before in let s = i .before .before .before .before in
     let q = found-in (s .args .size) (r .rest .result .now) (l .search-limit .ensures) (f .find-zero .ensures) (k .search .given .1) in
-    (s .pre, omega (arith, length-take-le _ (r .rest .result .now) (q .0), q .1))
+    (s .pre .0, omega (arith, length-take-le _ (r .rest .result .now) (q .0), q .1))
 
 enum-known-search-2 : tie.Need-enum-known-search-2
 enum-known-search-2 c = search needs
@@ -45,7 +45,7 @@ record-bytes-requires-2 : tie.Need-record-bytes-requires-2
 record-bytes-requires-2 c κs =
     let k = c .before .before .before .before in let f = k .before .before in let l = f .before in let r = l .before in let i = r .before in let s = i .before .before .before .before in
     let q = reached-in (s .args .size) (r .rest .result .now) (l .search-limit .ensures) (f .find-zero .ensures) (k .search2 .given .1) in
-    (s .pre, omega (arith, length-take-le _ (r .rest .result .now) (q .0), q .1))
+    (s .pre .0, omega (arith, length-take-le _ (r .rest .result .now) (q .0), q .1))
 
 same-length : tie.Need-same-length
 same-length c = search needs
@@ -69,12 +69,12 @@ returns-3 c =
 returns-4 : tie.Need-returns-4
 returns-4 c =
     let k = c .before .before in let f = k .before .before in let l = f .before in let r = l .before in let i = r .before in let s = i .before .before .before .before in
-    kept-refused (zero-long _ _ _ _ (i .if1 .left) (r .rest .ensures) (l .search-limit .ensures) (f .find-zero .ensures) (k .search2 .given .1) (omega (arith, c .if2 .left))) (omega arith) (s .pre) refl refl
+    kept-refused (zero-long _ _ _ _ (i .if1 .left) (r .rest .ensures) (l .search-limit .ensures) (f .find-zero .ensures) (k .search2 .given .1) (omega (arith, c .if2 .left))) (omega arith) (s .pre .0) refl refl
 
 returns-5 : tie.Need-returns-5
 returns-5 c =
     let f = c .before .before in let l = f .before in let r = l .before in let i = r .before in let s = i .before .before .before .before in
-    kept-refused (zero-ended _ _ _ _ (i .if1 .left) (r .rest .ensures) (l .search-limit .ensures) (f .find-zero .ensures) (c .enum-told .given .1)) (omega arith) (s .pre) refl refl
+    kept-refused (zero-ended _ _ _ _ (i .if1 .left) (r .rest .ensures) (l .search-limit .ensures) (f .find-zero .ensures) (c .enum-told .given .1)) (omega arith) (s .pre .0) refl refl
 
 pub record-to-zero-spec : {M : Type 1} → statement M
 record-to-zero-spec =

@@ -1,19 +1,60 @@
-use mathlib.Core.Path.{refl}
+use mathlib.Core.Path.{refl, sym, ap, _∙_}
+use denote.Ref.{now}
 use Rattle.isa.specs.Classes.{opcodes, classOf}
 use Rattle.isa.specs.Rows.{rowsFrom, table}
+use Rattle.machine.specs.Run.{inputRefusal}
+use Rattle.verifier.specs.Verdict.{verdictOf}
+use Rattle.machine.specs.Fed.{fed}
+use Rattle.runner.proofs.Inputs.{inputs-fit}
+use Rattle.runner.proofs.Entering.{is-accepted, enter-refused, enter-inputs, enter-loop}
 use borrow.Author.Needs.{needs}
 use Rattle.runner.proofs.run.Statement.{statement}
 use Rattle.runner.proofs.run.Tie as tie
 
-run-by-requires : tie.Need-run-by-requires
-unfolding table rowsFrom classOf opcodes
-run-by-requires c κs = refl
+verify-requires : tie.Need-verify-requires
+verify-requires c κs = search needs
+
+enum-known-number : tie.Need-enum-known-number
+enum-known-number c = search needs
+
+enum-known-count : tie.Need-enum-known-count
+enum-known-count c = search needs
+
+inputs-refusal-requires : tie.Need-inputs-refusal-requires
+inputs-refusal-requires c κs = search needs
 
 same-length : tie.Need-same-length
 same-length c = search needs
 
 returns : tie.Need-returns
-returns c = search needs
+unfolding inputRefusal
+returns c = let v = c .before .before .before .before .before .before in let s = v .before .before .before .before .before .before in enter-inputs (fed (now (s .args .code)) (now (s .args .registers)) (s .args .image-first) (now (s .args .image)) (s .args .work-first) (now (s .args .work))) (s .args .tracepoint) _ _ (s .args .used) (s .args .allowance) (sym (v .verify .ensures) ∙ ap verdictOf (c .before .before .before .before .count .given .1)) (c .before .inputs-refusal .ensures) (c .if1 .taken)
+
+run-accepted-requires : tie.Need-run-accepted-requires
+unfolding inputRefusal table rowsFrom classOf opcodes
+run-accepted-requires c κs = let v = c .before .before .before .before .before .before .before .before .before in let s = v .before .before .before .before .before .before in let z = inputs-fit (fed (now (s .args .code)) (now (s .args .registers)) (s .args .image-first) (now (s .args .image)) (s .args .work-first) (now (s .args .work))) (now (s .args .buffer)) (s .args .used) (sym (c .before .before .before .before .inputs-refusal .ensures) ∙ c .before .before .before .if1 .left) in (refl, is-accepted (sym (v .verify .ensures) ∙ ap verdictOf (c .before .before .before .before .before .before .before .count .given .1)), z .0, z .1, z .2)
+
+returns-2 : tie.Need-returns-2
+returns-2 c = let v = c .before .before .before in let s = v .before .before .before .before .before .before in enter-refused (fed (now (s .args .code)) (now (s .args .registers)) (s .args .image-first) (now (s .args .image)) (s .args .work-first) (now (s .args .work))) (s .args .tracepoint) _ _ (s .args .used) (s .args .allowance) (sym (v .verify .ensures) ∙ ap verdictOf (c .before .number .given .1))
+
+same-length-2 : tie.Need-same-length-2
+same-length-2 c = search needs
+
+returns-3 : tie.Need-returns-3
+unfolding inputRefusal
+returns-3 c = let v = c .before .before .before .before .before .before .before .before .before .before .before .before in let s = v .before .before .before .before .before .before in enter-loop (fed (now (s .args .code)) (now (s .args .registers)) (s .args .image-first) (now (s .args .image)) (s .args .work-first) (now (s .args .work))) (s .args .tracepoint) _ _ (s .args .used) (s .args .allowance) (sym (v .verify .ensures) ∙ ap verdictOf (c .before .before .before .before .before .before .before .before .before .before .count .given .1)) (c .before .before .before .before .before .before .before .inputs-refusal .ensures) (c .before .before .before .before .before .before .if1 .left) (c .before .before .run-accepted .ensures)
 
 pub run-spec : {M : Type 1} → statement M
-run-spec = tie.close (tie.spec run-by-requires same-length returns)
+run-spec =
+    tie.close
+    (tie.spec
+    verify-requires
+    enum-known-number
+    enum-known-count
+    inputs-refusal-requires
+    same-length
+    returns
+    run-accepted-requires
+    returns-2
+    same-length-2
+    returns-3)

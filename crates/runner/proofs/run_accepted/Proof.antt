@@ -9,52 +9,55 @@ use Rattle.runner.proofs.run_accepted.Statement.{statement}
 use Rattle.runner.proofs.run_accepted.Tie as tie
 
 abbrev Inv-loop : tie.InvT-loop
-Inv-loop rows code registers image-first image work-first work variables₀ buffer₀ used tracepoint allowance own₀ stack₀ at₀ put₀ steps₀ variables buffer own stack at put steps = Loop (fed code registers image-first image work-first work) buffer₀ used variables₀ allowance variables own buffer stack at put steps
+Inv-loop rows code registers image-first image work-first work variables₀ buffer₀ used tracepoint allowance own₀ stack₀ height₀ at₀ put₀ steps₀ variables buffer own stack height at put steps = Loop (fed code registers image-first image work-first work) buffer₀ used variables₀ allowance variables own buffer (stack .cells) height at put steps
 
 abbrev μ-loop : tie.MeasureT-loop
-μ-loop rows code registers image-first image work-first work variables₀ buffer₀ used tracepoint allowance own₀ stack₀ at₀ put₀ steps₀ variables buffer own stack at put steps = allowance - steps
+μ-loop rows code registers image-first image work-first work variables₀ buffer₀ used tracepoint allowance own₀ stack₀ height₀ at₀ put₀ steps₀ variables buffer own stack height at put steps = allowance - steps
 
 empty-requires : tie.Need-empty-requires Inv-loop μ-loop
 empty-requires c κs = search needs
 
 loop-holds : tie.Need-loop-holds Inv-loop μ-loop
-loop-holds c = let s = c .before .before .before .before .before .before .before in loop-start (s .pre .1 .accepts) _ _ _ _ (c .empty .result) (s .pre .3) (c .empty .ensures .0) (ap length (c .empty .ensures .1))
-
-add-counted : tie.Need-add-counted Inv-loop μ-loop
-add-counted c = omega (arith, c .before .before .before .before .before .before .before .before .before .fits .allowance, c .loop-test .taken)
+loop-holds c = let s = c .before .before .before .before .before .before .before in loop-start (s .pre .1 .accepts) _ _ _ _ (s .pre .3) (c .empty .ensures .0) (ap length (c .empty .ensures .1))
 
 step-requires : tie.Need-step-requires Inv-loop μ-loop
-step-requires c κs = let q = c .before .before .before .before in let s = c .before .before .before .before .before .before .before .before .before .before .before .before in (place (s .pre .1 .accepts) (q .loop .inv) (s .pre .0), (omega (arith, q .loop .inv .room, as-long (q .loop .inv)), s .pre .2))
+step-requires c κs = let q = c .before .before .before .before in let s = q .before .before .before .before .before .before .before .before in (place (s .pre .1 .accepts) (q .loop .inv) (s .pre .0), (omega (arith, q .loop .inv .room, as-long (q .loop .inv)), s .pre .2))
+
+add-counted : tie.Need-add-counted Inv-loop μ-loop
+add-counted c = let t = c .before .before .before .before in omega (arith, t .before .before .before .before .before .before .before .before .before .before .before .before .before .fits .allowance, t .before .before .before .before .loop-test .taken)
 
 value-of-requires : tie.Need-value-of-requires Inv-loop μ-loop
-value-of-requires c κs = room-left (c .before .before .before .before .before .before .before .before .before .before .before .before .before .before .before .before .before .before .before .before .before .pre .1 .accepts) (c .before .before .before .before .before .before .before .before .before .before .before .before .before .loop .inv) (c .before .before .before .before .before .before .before .before .before .before .before .before .loop-test .taken) (c .before .before .before .before .before .before .before .before .step .ensures) (c .before .before .if2 .taken) .3
+value-of-requires c κs = let t = c .before .before .before .before .before .before .before .before in let s = t .before .before .before .before .before .before .before .before .before .before .before .before .before in room-left (s .pre .1 .accepts) (t .before .before .before .before .before .loop .inv) (t .before .before .before .before .loop-test .taken) (t .step .ensures) (c .before .before .if2 .taken) .3
 
 sub-close-frame : tie.Need-sub-close-frame Inv-loop μ-loop
-sub-close-frame c = room-left (c .before .before .before .before .before .before .before .before .before .before .before .before .before .before .before .before .before .before .before .before .before .before .before .pre .1 .accepts) (c .before .before .before .before .before .before .before .before .before .before .before .before .before .before .before .loop .inv) (c .before .before .before .before .before .before .before .before .before .before .before .before .before .before .loop-test .taken) (c .before .before .before .before .before .before .before .before .before .before .step .ensures) (c .before .before .before .before .if2 .taken) .0
+sub-close-frame c = let t = c .before .before .before .before .before .before .before .before .before .before in let s = t .before .before .before .before .before .before .before .before .before .before .before .before .before in room-left (s .pre .1 .accepts) (t .before .before .before .before .before .loop .inv) (t .before .before .before .before .loop-test .taken) (t .step .ensures) (c .before .before .before .before .if2 .taken) .0
 
 close-frame-requires : tie.Need-close-frame-requires Inv-loop μ-loop
-close-frame-requires c κs = let s = c .before .before .before .before .before .before .before .before .before .before .before .before .before .before .before .before .before .before .before .before .before .before .before in let e = room-left (s .pre .1 .accepts) (c .before .before .before .before .before .before .before .before .before .before .before .before .before .before .before .loop .inv) (c .before .before .before .before .before .before .before .before .before .before .before .before .before .before .loop-test .taken) (c .before .before .before .before .before .before .before .before .before .before .step .ensures) (c .before .before .before .before .if2 .taken) in (e .1, omega (arith, e, s .pre .4))
+close-frame-requires c κs = let t = c .before .before .before .before .before .before .before .before .before .before in let s = t .before .before .before .before .before .before .before .before .before .before .before .before .before in let e = room-left (s .pre .1 .accepts) (t .before .before .before .before .before .loop .inv) (t .before .before .before .before .loop-test .taken) (t .step .ensures) (c .before .before .before .before .if2 .taken) in (e .1, omega (arith, e, s .pre .4))
 
 add-t34 : tie.Need-add-t34 Inv-loop μ-loop
-add-t34 c = let s = c .before .before .before .before .before .before .before .before .before .before .before .before .before .before .before .before .before .before .before .before .before .before .before .before .before .before in let e = room-left (s .pre .1 .accepts) (c .before .before .before .before .before .before .before .before .before .before .before .before .before .before .before .before .before .before .loop .inv) (c .before .before .before .before .before .before .before .before .before .before .before .before .before .before .before .before .before .loop-test .taken) (c .before .before .before .before .before .before .before .before .before .before .before .before .before .step .ensures) (c .before .before .before .before .before .before .before .if2 .taken) in omega (arith, e, s .pre .4)
+add-t34 c = let t = c .before .before .before .before .before .before .before .before .before .before .before .before .before in let s = t .before .before .before .before .before .before .before .before .before .before .before .before .before in let e = room-left (s .pre .1 .accepts) (t .before .before .before .before .before .loop .inv) (t .before .before .before .before .loop-test .taken) (t .step .ensures) (c .before .before .before .before .before .before .before .if2 .taken) in omega (arith, e, s .pre .4)
 
 same-length : tie.Need-same-length Inv-loop μ-loop
-same-length c = let s = c .before .before .before .before .before .before .before .before .before .before .before .before .before .before .before .before .before .before .before .before .before .before .before .before .before .before in c .before .before .close-frame .kept .0 ∙ room-left (s .pre .1 .accepts) (c .before .before .before .before .before .before .before .before .before .before .before .before .before .before .before .before .before .before .loop .inv) (c .before .before .before .before .before .before .before .before .before .before .before .before .before .before .before .before .before .loop-test .taken) (c .before .before .before .before .before .before .before .before .before .before .before .before .before .step .ensures) (c .before .before .before .before .before .before .before .if2 .taken) .2
+same-length c = let t = c .before .before .before .before .before .before .before .before .before .before .before .before .before in let s = t .before .before .before .before .before .before .before .before .before .before .before .before .before in c .before .before .close-frame .kept .0 ∙ room-left (s .pre .1 .accepts) (t .before .before .before .before .before .loop .inv) (t .before .before .before .before .loop-test .taken) (t .step .ensures) (c .before .before .before .before .before .before .before .if2 .taken) .2
 
 returns : tie.Need-returns Inv-loop μ-loop
-returns c = let s = c .before .before .before .before .before .before .before .before .before .before .before .before .before .before .before .before .before .before .before .before .before .before .before .before .before .before in ends (s .pre .1 .accepts) (c .before .before .before .before .before .before .before .before .before .before .before .before .before .before .before .before .before .before .loop .inv) (c .before .before .before .before .before .before .before .before .before .before .before .before .before .before .before .before .before .loop-test .taken) (c .before .before .before .before .before .before .before .before .before .before .before .before .before .step .ensures) (c .before .before .before .before .before .before .before .if2 .taken) (s .args .tracepoint) (c .before .before .close-frame .ensures) (c .before .before .before .before .value-of .ensures)
+returns c = let t = c .before .before .before .before .before .before .before .before .before .before .before .before .before in let s = t .before .before .before .before .before .before .before .before .before .before .before .before .before in ends (s .pre .1 .accepts) (t .before .before .before .before .before .loop .inv) (t .before .before .before .before .loop-test .taken) (t .step .ensures) (c .before .before .before .before .before .before .before .if2 .taken) (s .args .tracepoint) (c .before .before .close-frame .ensures) (c .before .before .before .before .value-of .ensures)
 
 same-length-2 : tie.Need-same-length-2 Inv-loop μ-loop
-same-length-2 c = c .before .before .before .before .before .before .step .kept .1 .1 .1 .1 .1 .1 .1 .1 .1 .0 ∙ as-long (c .before .before .before .before .before .before .before .before .before .before .before .loop .inv)
+same-length-2 c = let t = c .before .before .before .before .before .before in t .step .kept .1 .1 .1 .1 .1 .1 .1 .1 .1 .0 ∙ as-long (t .before .before .before .before .before .loop .inv)
 
 returns-2 : tie.Need-returns-2 Inv-loop μ-loop
-returns-2 c = let s = c .before .before .before .before .before .before .before .before .before .before .before .before .before .before .before .before .before .before .before in halts (s .pre .1 .accepts) (c .before .before .before .before .before .before .before .before .before .before .before .loop .inv) (c .before .before .before .before .before .before .before .before .before .before .loop-test .taken) (c .before .before .before .before .before .before .step .ensures) (c .before .before .if1 .taken) (c .if2 .left) (s .args .tracepoint)
+returns-2 c = let t = c .before .before .before .before .before .before in let s = t .before .before .before .before .before .before .before .before .before .before .before .before .before in halts (s .pre .1 .accepts) (t .before .before .before .before .before .loop .inv) (t .before .before .before .before .loop-test .taken) (t .step .ensures) (c .before .before .if1 .taken) (c .if2 .left) (s .args .tracepoint)
+
+add-steps : tie.Need-add-steps Inv-loop μ-loop
+add-steps c = let t = c .before .before .before .before in omega (arith, t .before .before .before .before .before .before .before .before .before .before .before .before .before .fits .allowance, t .before .before .before .before .loop-test .taken)
 
 loop-less : tie.Need-loop-less Inv-loop μ-loop
 loop-less c = omega arith
 
 loop-again : tie.Need-loop-again Inv-loop μ-loop
-loop-again c = let s = c .before .before .before .before .before .before .before .before .before .before .before .before .before .before .before .before .before in turn (s .pre .1 .accepts) (c .before .before .before .before .before .before .before .before .before .loop .inv) (c .before .before .before .before .before .before .before .before .loop-test .taken) (c .before .before .before .before .step .ensures) (c .if1 .left)
+loop-again c = let t = c .before .before .before .before in let s = t .before .before .before .before .before .before .before .before .before .before .before .before .before in turn (s .pre .1 .accepts) (t .before .before .before .before .before .loop .inv) (t .before .before .before .before .loop-test .taken) (t .step .ensures) (c .if1 .left)
 
 same-length-3 : tie.Need-same-length-3 Inv-loop μ-loop
 same-length-3 c = as-long (c .before .loop .inv)
@@ -70,8 +73,8 @@ run-accepted-spec =
     μ-loop
     empty-requires
     loop-holds
-    add-counted
     step-requires
+    add-counted
     value-of-requires
     sub-close-frame
     close-frame-requires
@@ -80,6 +83,7 @@ run-accepted-spec =
     returns
     same-length-2
     returns-2
+    add-steps
     loop-less
     loop-again
     same-length-3

@@ -11,7 +11,7 @@ use Rattle.machine.specs.Fed.{fed}
 use Rattle.machine.specs.Recording.{rangeMade, toZeroMade}
 use Rattle.machine.specs.Meaning.{refDone, regDone}
 use Rattle.operations.proofs.Promises.{here, binary-quiet, ref-quiet, reg-quiet}
-use Rattle.stepping.proofs.Lifting.{did-moved, did-set, did-logged, did-end, branch-offset, none-left}
+use Rattle.stepping.proofs.Lifting.{did-moved, did-set, did-logged, did-end, branch-offset, none-left, not-zero}
 use Rattle.stepping.proofs.step.Statement.{statement}
 use Rattle.stepping.proofs.step.Tie as tie
 
@@ -388,7 +388,10 @@ unfolding classOf opcodes
 returns-44 c = did-moved _ _ _ _ _ 0x33 rot refl (c .before .before .match .keys44) refl refl refl refl refl refl (c .do-rot .ensures) (c .before .before .before .before .before .before .before .before .before .pre .1 .0)
 
 returns-45 : tie.Need-returns-45
-returns-45 c = none-left _ (c .match .rest) (c .before .before .before .before .before .before .before .pre .0 .supported)
+returns-45 c = not-zero _ (c .match .keys45) (c .before .before .before .before .before .before .before .pre .0 .supported)
+
+returns-46 : tie.Need-returns-46
+returns-46 c = none-left _ (c .match .rest .0) (c .before .before .before .before .before .before .before .pre .0 .supported)
 
 pub step-spec : {M : Type 1} → statement M
 step-spec =
@@ -489,4 +492,5 @@ step-spec =
     returns-42
     returns-43
     returns-44
-    returns-45)
+    returns-45
+    returns-46)

@@ -3,7 +3,7 @@ use std::path::Path;
 
 fn main() {
     let package = std::env::var("CARGO_MANIFEST_DIR").expect("cargo sets it");
-    let libraries = Path::new(&package).join("../../target/staticlib");
+    let libraries = Path::new(&package).join("../target/staticlib");
     println!("cargo:rustc-link-search=native={}", libraries.display());
     for name in ["lilivrez_agent", "lilivrez_verifier"] {
         let archive = libraries.join(format!("lib{name}.a"));

@@ -1,5 +1,7 @@
 //! Safe wrappers over the static libraries. What the functions promise is said in include/lilivrez_verifier.h and
 //! include/lilivrez_agent.h; what a caller owes there (good pointers, no overlap) Rust's slices and arrays give.
+pub mod library;
+
 use std::fmt;
 
 /// Why something was refused: the numbers of document 01.
@@ -99,7 +101,7 @@ impl Refusal {
     }
 
     /// The refusal that a function returned, or none where it returned 0.
-    fn from(number: u32) -> Option<Refusal> {
+    pub fn of(number: u32) -> Option<Refusal> {
         let at = (number as usize).checked_sub(1)?;
         Some(REFUSALS[at])
     }
@@ -108,69 +110,6 @@ impl Refusal {
 impl fmt::Display for Refusal {
     fn fmt(&self, f: &mut fmt::Formatter) -> fmt::Result {
         f.write_str(WORDS[self.number() as usize - 1])
-    }
-}
-
-/// A slice is a pointer and a length there; a reference to an array is a pointer alone.
-mod library {
-    extern "C" {
-        pub fn lilivrez_verify(expression: *const u8, length: usize, out: *mut [u64; 4]) -> u32;
-
-        pub fn lilivrez_fetch(
-            image_first: u64,
-            image: *const u8,
-            image_length: usize,
-            work_first: u64,
-            work: *const u8,
-            work_length: usize,
-            address: u64,
-            size: u64,
-            out: *mut [u64; 2],
-        ) -> u32;
-
-        pub fn lilivrez_run(
-            expression: *const u8,
-            length: usize,
-            registers: *const u64,
-            register_count: usize,
-            image_first: u64,
-            image: *const u8,
-            image_length: usize,
-            work_first: u64,
-            work: *const u8,
-            work_length: usize,
-            variables: *mut [u64; 64],
-            buffer: *mut u8,
-            buffer_length: usize,
-            used: usize,
-            tracepoint: u16,
-            allowance: u64,
-            out: *mut [u64; 6],
-        ) -> u32;
-
-        pub fn lilivrez_read(
-            buffer: *const u8,
-            buffer_length: usize,
-            used: usize,
-            frame: u64,
-            index: u64,
-            out: *mut [u64; 6],
-        ) -> u32;
-
-        pub fn lilivrez_count(
-            buffer: *const u8,
-            buffer_length: usize,
-            used: usize,
-            frame: u64,
-            out: *mut [u64; 5],
-        ) -> u32;
-
-        pub fn lilivrez_walk(
-            buffer: *const u8,
-            buffer_length: usize,
-            place: usize,
-            out: *mut [u64; 5],
-        ) -> u32;
     }
 }
 
@@ -191,11 +130,9 @@ pub struct Refused {
 
 pub fn verify(expression: &[u8]) -> Result<Accepted, Refused> {
     let mut out = [0; 4];
-    // SAFETY: pointer and length are of one slice, and `out` is borrowed by nobody else.
-    let number =
-        unsafe { library::lilivrez_verify(expression.as_ptr(), expression.len(), &mut out) };
+    let number = library::verify(expression, &mut out);
     let [offset, instructions, greatest_height, longest_walk] = out;
-    match Refusal::from(number) {
+    match Refusal::of(number) {
         Some(refusal) => Err(Refused { refusal, offset }),
         None => Ok(Accepted {
             instructions,
@@ -222,21 +159,8 @@ pub fn fetch<'a>(
     size: u64,
 ) -> Result<&'a [u8], Refusal> {
     let mut out = [0; 2];
-    // SAFETY: each pointer and length are of one slice, and `out` is borrowed by nobody else.
-    let number = unsafe {
-        library::lilivrez_fetch(
-            image.first,
-            image.bytes.as_ptr(),
-            image.bytes.len(),
-            work.first,
-            work.bytes.as_ptr(),
-            work.bytes.len(),
-            address,
-            size,
-            &mut out,
-        )
-    };
-    if let Some(refusal) = Refusal::from(number) {
+    let number = library::fetch([image, work], address, size, &mut out);
+    if let Some(refusal) = Refusal::of(number) {
         return Err(refusal);
     }
     let [span, index] = out;
@@ -299,31 +223,13 @@ pub fn run(
     allowance: u64,
 ) -> Result<Completed, Stopped> {
     let mut out = [0; 6];
-    // SAFETY: each pointer and length are of one slice; `variables`, the buffer and `out` are borrowed by nobody else.
-    let number = unsafe {
-        library::lilivrez_run(
-            expression.as_ptr(),
-            expression.len(),
-            target.registers.as_ptr(),
-            target.registers.len(),
-            target.image.first,
-            target.image.bytes.as_ptr(),
-            target.image.bytes.len(),
-            target.work.first,
-            target.work.bytes.as_ptr(),
-            target.work.bytes.len(),
-            variables,
-            buffer.bytes.as_mut_ptr(),
-            buffer.bytes.len(),
-            buffer.used,
-            tracepoint,
-            allowance,
-            &mut out,
-        )
-    };
+    let allowance = Some(allowance);
+    let number = library::run(
+        expression, target, variables, buffer, tracepoint, allowance, &mut out,
+    );
     let [offset, steps, used, cells, top, beneath] = out;
     buffer.used = used as usize;
-    match Refusal::from(number) {
+    match Refusal::of(number) {
         Some(refusal) => Err(Stopped {
             refusal,
             offset,
@@ -355,11 +261,8 @@ pub enum Record<'a> {
 /// Record number `index` of frame number `frame`, both from 0; frame 0 is the newest. The bytes are those in the buffer.
 pub fn read(buffer: &[u8], used: usize, frame: u64, index: u64) -> Result<Record<'_>, Refused> {
     let mut out = [0; 6];
-    // SAFETY: pointer and length are of one slice, and `out` is borrowed by nobody else.
-    let number = unsafe {
-        library::lilivrez_read(buffer.as_ptr(), buffer.len(), used, frame, index, &mut out)
-    };
-    if let Some(refusal) = Refusal::from(number) {
+    let number = library::read(buffer, used, frame, index, &mut out);
+    if let Some(refusal) = Refusal::of(number) {
         let offset = out[0];
         return Err(Refused { refusal, offset });
     }
@@ -379,11 +282,9 @@ pub fn read(buffer: &[u8], used: usize, frame: u64, index: u64) -> Result<Record
 /// How many records frame number `frame` has.
 pub fn count(buffer: &[u8], used: usize, frame: u64) -> Result<u64, Refused> {
     let mut out = [0; 5];
-    // SAFETY: pointer and length are of one slice, and `out` is borrowed by nobody else.
-    let number =
-        unsafe { library::lilivrez_count(buffer.as_ptr(), buffer.len(), used, frame, &mut out) };
+    let number = library::count(buffer, used, frame, &mut out);
     let [offset, _, _, _, records] = out;
-    match Refusal::from(number) {
+    match Refusal::of(number) {
         Some(refusal) => Err(Refused { refusal, offset }),
         None => Ok(records),
     }
@@ -407,18 +308,10 @@ impl Walker<'_> {
     /// The next older frame, or a refusal with the place kept.
     pub fn step(&mut self) -> Result<Frame, Refused> {
         let mut out = [0; 5];
-        // SAFETY: pointer and length are of one slice, and `out` is borrowed by nobody else.
-        let number = unsafe {
-            library::lilivrez_walk(
-                self.buffer.as_ptr(),
-                self.buffer.len(),
-                self.place,
-                &mut out,
-            )
-        };
+        let number = library::walk(self.buffer, self.place, &mut out);
         let [offset, tracepoint, start, length, next] = out;
         self.place = next as usize;
-        match Refusal::from(number) {
+        match Refusal::of(number) {
             Some(refusal) => Err(Refused { refusal, offset }),
             None => Ok(Frame {
                 tracepoint,

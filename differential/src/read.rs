@@ -1,0 +1,227 @@
+//! lilivrez_read, lilivrez_count and lilivrez_walk, each asked of one buffer: a record of a frame, the number of its records,
+//! and the frame that ends at the used length. A case's line is `BYTES LENGTH USED FRAME RECORD`: the buffer has LENGTH bytes,
+//! which are BYTES over and over.
+
+use crate::compare::{Answer, Case, Entry, UNSTORED};
+use crate::fields;
+use crate::shrink::{self, each};
+use evaluator::generate::reader::{self as generate, Frames};
+use evaluator::hex;
+use evaluator::random::Random;
+use evaluator::reader::{self, Reading};
+use evaluator::reads::{Asked, Buffer};
+use evaluator::verify::Refused;
+use lilivrez::library;
+
+#[derive(Clone, PartialEq)]
+pub struct Read {
+    buffer: Buffer,
+    used: u64,
+    frame: u64,
+    record: u64,
+}
+
+/// The numbers of a record's kinds.
+const MEMORY: u64 = 1;
+const VARIABLE: u64 = 2;
+
+/// Frames that are asked for some times before others are made.
+#[derive(Default)]
+pub struct Maker {
+    frames: Frames,
+}
+
+const TIMES: usize = 8;
+
+fn refused<const N: usize>(refused: Refused) -> (u32, [u64; N]) {
+    let mut out = [0; N];
+    out[0] = refused.offset as u64;
+    (refused.number.into(), out)
+}
+
+fn record(reading: Result<Reading, Refused>) -> (u32, [u64; 6]) {
+    match reading {
+        Ok(Reading::Memory {
+            tracepoint,
+            address,
+            length,
+            place,
+        }) => {
+            let bytes = [address, length as u64, place as u64];
+            let [address, length, place] = bytes;
+            (0, [0, tracepoint.into(), MEMORY, address, length, place])
+        }
+        Ok(Reading::Variable {
+            tracepoint,
+            number,
+            value,
+        }) => (0, [0, tracepoint.into(), VARIABLE, number.into(), value, 0]),
+        Err(why) => refused(why),
+    }
+}
+
+impl Read {
+    fn records(&self, buffer: &[u8]) -> (u32, [u64; 5]) {
+        match reader::count(buffer, self.used, self.frame) {
+            Ok((frame, count)) => {
+                let numbers = [frame.start, frame.length, count];
+                let [start, length, count] = numbers.map(|number| number as u64);
+                (0, [0, frame.tracepoint.into(), start, length, count])
+            }
+            Err(why) => refused(why),
+        }
+    }
+
+    /// The step of a walker whose place is the used length; a refusal keeps it.
+    fn step(&self, buffer: &[u8]) -> (u32, [u64; 5]) {
+        match reader::step(buffer, self.used) {
+            Ok(frame) => {
+                let [start, length] = [frame.start, frame.length].map(|number| number as u64);
+                (0, [0, frame.tracepoint.into(), start, length, start])
+            }
+            Err(why) => {
+                let (number, mut out) = refused(why);
+                out[4] = self.used;
+                (number, out)
+            }
+        }
+    }
+}
+
+fn answers(
+    (read, record): (u32, [u64; 6]),
+    (count, records): (u32, [u64; 5]),
+    (walk, frame): (u32, [u64; 5]),
+) -> Vec<Answer> {
+    vec![
+        Answer::numbers(read, &record),
+        Answer::numbers(count, &records),
+        Answer::numbers(walk, &frame),
+    ]
+}
+
+impl Case for Read {
+    const KIND: &'static str = "read";
+    const ENTRIES: &'static [Entry] = &[
+        Entry {
+            name: "read",
+            places: &[
+                "offset",
+                "tracepoint",
+                "kind",
+                "address or number",
+                "length or value",
+                "place",
+            ],
+            refusals: &[15, 22, 23, 24, 25],
+            sort: |out| match out[2] {
+                MEMORY => "a memory record",
+                _ => "a variable record",
+            },
+        },
+        Entry {
+            name: "count",
+            places: &["offset", "tracepoint", "start", "length", "records"],
+            refusals: &[15, 22, 23, 24],
+            sort: |out| match out[4] {
+                0 => "a frame without records",
+                _ => "a frame with records",
+            },
+        },
+        Entry {
+            name: "walk",
+            places: &["offset", "tracepoint", "start", "length", "place"],
+            refusals: &[15, 22, 24],
+            sort: |out| match out[3] {
+                0 => "a frame without records",
+                _ => "a frame with records",
+            },
+        },
+    ];
+    type Maker = Maker;
+
+    fn any(maker: &mut Maker, random: &mut Random, number: usize) -> Read {
+        if number.is_multiple_of(TIMES) {
+            maker.frames = generate::any_frames(random);
+        }
+        let case = generate::any(random, &maker.frames);
+        let (used, frame, record) = match case.asked {
+            Asked::Read {
+                used,
+                frame,
+                record,
+            } => (used, frame, record),
+            Asked::Count { used, frame } | Asked::Locate { used, frame } => (used, frame, 0),
+            Asked::Step { place } => (place, 0, 0),
+        };
+        let buffer = case.buffer;
+        Read {
+            buffer,
+            used,
+            frame,
+            record,
+        }
+    }
+
+    fn line(&self) -> String {
+        let Buffer { bytes, length } = &self.buffer;
+        let (used, frame, record) = (self.used, self.frame, self.record);
+        let bytes = hex::field(bytes);
+        format!("{bytes} {length:x} {used:x} {frame:x} {record:x}")
+    }
+
+    fn read(line: &str) -> Result<Read, String> {
+        let [bytes, length, used, frame, record] = fields::divided(line)?;
+        let buffer = Buffer {
+            bytes: fields::bytes(bytes)?,
+            length: fields::number(length)? as usize,
+        };
+        Ok(Read {
+            buffer,
+            used: fields::number(used)?,
+            frame: fields::number(frame)?,
+            record: fields::number(record)?,
+        })
+    }
+
+    fn expected(&self) -> Vec<Answer> {
+        let buffer = self.buffer.values();
+        let reading = reader::read(&buffer, self.used, self.frame, self.record);
+        answers(record(reading), self.records(&buffer), self.step(&buffer))
+    }
+
+    fn found(&self) -> Vec<Answer> {
+        let buffer = self.buffer.values();
+        let used = self.used as usize;
+        let mut record = [UNSTORED; 6];
+        let read = library::read(&buffer, used, self.frame, self.record, &mut record);
+        let mut records = [UNSTORED; 5];
+        let count = library::count(&buffer, used, self.frame, &mut records);
+        let mut frame = [UNSTORED; 5];
+        let walk = library::walk(&buffer, used, &mut frame);
+        answers((read, record), (count, records), (walk, frame))
+    }
+
+    fn smaller(&self) -> Vec<Read> {
+        let bytes = self.buffer.values();
+        let parts = || shrink::parts(bytes.len());
+        let cut = |case: &mut Read, part| case.buffer = Buffer::of(&shrink::without(&bytes, &part));
+        let numbers = shrink::numbers;
+        [
+            each(self, parts(), |case, part| {
+                case.used = case.used.saturating_sub(part.len() as u64);
+                cut(case, part);
+            }),
+            each(self, parts(), cut),
+            each(self, shrink::bytes(&self.buffer.bytes), |case, bytes| {
+                case.buffer.bytes = bytes
+            }),
+            each(self, numbers(self.used), |case, used| case.used = used),
+            each(self, numbers(self.frame), |case, frame| case.frame = frame),
+            each(self, numbers(self.record), |case, record| {
+                case.record = record
+            }),
+        ]
+        .concat()
+    }
+}
