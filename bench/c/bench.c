@@ -68,7 +68,7 @@ static uint32_t run(int agent, const struct expression *e, struct given g, uint6
 // All frames from the newest on: each is walked over, and for READ both of its records are read.
 static uint64_t read_back(int agent, bool reads)
 {
-    uint64_t sum = 0, place[4], record[6];
+    uint64_t sum = 0, place[5], record[6];
     size_t end = frames_used;
     while (agents[agent].walk(frames, sizeof frames, end, place) == 0) {
         sum += place[1];
@@ -77,7 +77,7 @@ static uint64_t read_back(int agent, bool reads)
                 agents[agent].read(frames, sizeof frames, end, 0, i, record);
                 sum += record[4];
             }
-        end = place[2];
+        end = place[4];
     }
     return sum;
 }

@@ -1,4 +1,6 @@
--- What the proofs of several functions use.
+-- `Promises` is the page for users of this crate; the others hold the work behind it.
+pub mod Promises
 mod Appending
 mod Hexing
+mod HexWriting
 mod Lists

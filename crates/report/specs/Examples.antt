@@ -1,7 +1,7 @@
 -- The definition of a reading at some texts. Assumes nothing.
 use mathlib.Core.Path.{_≡_, refl}
 use mathlib.Core.List.{[], _∷_}
-use Rattle.report.specs.Hex.{whole, wrong, single, full, isBlank, digitOf, afterHigh, tokenOf, readFrom, readingOf}
+use Rattle.report.specs.Hex.{whole, wrong, single, full, isBlank, digitOf, afterHigh, tokenOf, readFrom, readingOf, hexOf}
 use Rattle.report.specs.Text.{bytesOf}
 
 both-cases : readingOf (bytesOf "22 0aFf") 3 ≡ record { bytes = 0x22 ∷ 0x0a ∷ 0xff ∷ []; end = whole }
@@ -31,3 +31,7 @@ left-over = refl
 no-room : readingOf (bytesOf "27 22") 1 ≡ record { bytes = 0x27 ∷ []; end = full }
 unfolding isBlank digitOf afterHigh tokenOf readFrom
 no-room = refl
+
+written : hexOf (0x22 ∷ 0x0a ∷ 0xff ∷ []) ≡ bytesOf "220aff"
+unfolding hexOf
+written = refl

@@ -1,9 +1,10 @@
 -- What a hexadecimal text spells. Assumes nothing.
-use Prim.Native.Nat.{ℕ, zero, suc, _+_, _-_, _*_}
+use Prim.Native.Nat.{ℕ, zero, suc, _+_, _-_, _*_, _/_, _%_}
 use mathlib.Core.Bool.{Bool, true, false, cond}
 use mathlib.Core.List.{List, [], _∷_, _++_}
 use lib.Dec.{ltb, leb, eqb}
 use lib.ListN.{length, drop}
+use Rattle.io.specs.Digits.{glyph}
 use Rattle.report.specs.declared.hex.Token.{Token}
 use Rattle.report.specs.declared.hex.Token.the-variants.{Blank, Byte, Wrong, Single}
 use Rattle.report.specs.declared.hex.Decoded.{Decoded}
@@ -83,3 +84,11 @@ answerOf r = answerFor (r .bytes) (r .end)
 -- the buffer o with the bytes that were read at its start
 abbrev pub writtenOver : List ℕ → Reading → List ℕ
 writtenOver o r = r .bytes ++ drop (length (r .bytes)) o
+
+-- ---- written: a byte as two digits, in lower case
+abbrev pub pairOf : ℕ → List ℕ
+pairOf b = glyph (b / 16) ∷ glyph (b % 16) ∷ []
+
+unfoldable pub hexOf : List ℕ → List ℕ
+hexOf [] = []
+hexOf (b ∷ l) = pairOf b ++ hexOf l

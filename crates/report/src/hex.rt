@@ -3,7 +3,11 @@
 ghost use mathlib.Core.Path.{_≡_};
 ghost use Prim.Native.Nat.{ℕ, _<_, _≤_};
 ghost use lib.ListN.{length, drop};
-ghost use Rattle.report.specs.Hex.{digitOf, isBlank, tokenOf, readingOf, answerOf, writtenOver};
+ghost use Rattle.io.specs.Counts.{Counts};
+ghost use Rattle.io.specs.Digits.{glyph};
+ghost use Rattle.report.specs.Hex.{digitOf, isBlank, tokenOf, readingOf, answerOf, writtenOver, pairOf, hexOf};
+ghost use Rattle.report.specs.Text.{Appends};
+use crate::text::append;
 
 // What a text is: so many bytes; or not hexadecimal, at a position counted from 0; or hexadecimal
 // with a digit left over at the end; or more bytes than the buffer has room for.
@@ -24,7 +28,7 @@ enum Token {
 }
 
 // Line ends are blanks too, so that a text can come from a file.
-fn is_blank(c: u8) -> bool
+pub fn is_blank(c: u8) -> bool
     ensures { λ r. ⌜ r ≡ isBlank c ⌝ }
 {
     if c == b' ' {
@@ -98,4 +102,41 @@ pub fn decode(text: &[u8], out: &mut [u8]) -> Decoded
         }
     }
     Decoded::Bytes(n)
+}
+
+// The character of a digit, in lower case.
+fn character(digit: u8) -> u8
+    requires { ⌜ digit < 16 ⌝ }
+    ensures { λ r. ⌜ r ≡ glyph digit ⌝ }
+{
+    if digit < 10 {
+        return 48 + digit;
+    }
+    87 + digit
+}
+
+fn append_byte(out: &mut [u8], at: usize, byte: u8) -> usize
+    ensures count { λ r. ⌜ Counts r (now (out .exit)) ⌝ }
+    ensures text { λ r. ⌜ Appends (now (out .entry)) at (pairOf byte) (now (out .exit)) r ⌝ }
+{
+    let pair = [character(byte / 16), character(byte % 16)];
+    append(out, at, &pair)
+}
+
+// Appends bytes to the text that ends at `at`, two digits each and nothing between them. The answer is
+// where the text ends then.
+pub fn encode(out: &mut [u8], at: usize, bytes: &[u8]) -> usize
+    ensures count { λ r. ⌜ Counts r (now (out .exit)) ⌝ }
+    ensures text { λ r. ⌜ Appends (now (out .entry)) at (hexOf (now (bytes .entry))) (now (out .exit)) r ⌝ }
+{
+    if out.len() < at {
+        return out.len();
+    }
+    let mut n = at;
+    let mut i = 0;
+    while i < bytes.len() {
+        n = append_byte(out, n, bytes[i]);
+        i += 1;
+    }
+    n
 }

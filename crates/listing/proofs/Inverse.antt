@@ -1,0 +1,296 @@
+-- The text of an instruction is read back as the instruction, and a listing as the expression. Assumes nothing.
+use Prim.Native.Nat.{ℕ, zero, suc, _+_, _-_, _^_, _≤_, _<_}
+use native.Mathlib.Nat.{pow-le-pow-right}
+use native.Mathlib.Decide.{ℕ-discrete}
+use native.Mathlib.Omega.{arith}
+use native.Mathlib.Numerals.{add-one}
+use mathlib.Core.Bool.{Bool, true, cond, not, _&&_}
+use mathlib.Core.List.{List, [], _∷_, _++_, map}
+use mathlib.Core.Path.{_≡_, refl, sym, ap, subst, _∙_}
+use lib.Dec.{T, eqb, lit<}
+use lib.ListN.{length, take, drop, getD, replicate, take-append-drop, drop-of-length-le}
+use lib.Seq.{drop-cons, drop-drop}
+use borrow.Author.Tests.{eq-eqb, ne-eqb, lt-ltb, not-true}
+use Rattle.encoding.proofs.Promises.{cases, and-left, and-right, big-below}
+use Rattle.report.specs.Hex.{isBlank}
+use Rattle.isa.specs.Decode.{operandBytes, operand, next}
+use Rattle.isa.specs.Starts.{startsFrom}
+use Rattle.isa.proofs.Promises.{operands-most, by-starts, from-end, from-next}
+use Rattle.report.proofs.Promises.{append-nil, append-assoc}
+use Rattle.listing.specs.Names.{nameOf, opcodeOf}
+use Rattle.listing.specs.Numbers.{decimal, signed, leading, isDigit, limited, unsignedOf, negated, numberOf}
+use Rattle.listing.specs.Words.{isInWord, Word, firstWord, behind}
+use Rattle.listing.specs.Text.{aligned, operandText, textOf, textAt, isInstruction}
+use Rattle.listing.specs.Line.{operandsOf, byWord, ended, byNumber, operandBy, fromOperand, byOpcode, nameBy, fromName, byOffset, lineBy, readLine, lineBytes}
+use Rattle.listing.specs.Listing.{listingFrom, listing, allInstructions, bytes, afterBytes, thenLines, readLines, joined, onto, linesOf, listingText, readText}
+use Rattle.listing.specs.declared.numbers.Number.the-variants.{Value}
+use Rattle.listing.specs.declared.reading.Line.{Line}
+use Rattle.listing.specs.declared.reading.Line.the-variants.{Instruction}
+use Rattle.listing.proofs.BigBytes.{length-big, bytes-of-big}
+use Rattle.listing.proofs.Decimals.{decimal-value, decimal-digits, decimal-some}
+use Rattle.listing.proofs.Leading.{truth, all, stops, both, all-append, all-leading}
+use Rattle.listing.proofs.Numbering.{digit-range, limited-value, unsigned-all, negated-value, signed-minus, signed-plain}
+use Rattle.listing.proofs.Opcodes.{GoodName, good-name}
+use Rattle.listing.proofs.Texting.{signed-low, signed-high, operand-none, operand-some, Instructed, instructed, text-parts}
+use Rattle.listing.proofs.Wording.{first-word, last-blanks}
+
+-- ---- digits are in a word
+digit-in-word : (c : ℕ) → T (isDigit c) → T (isInWord c)
+unfolding isInWord isBlank
+digit-in-word c t =
+    let r = digit-range c (truth (isDigit c) t) in
+    rw (
+      ne-eqb c 32 (λ z. omega (arith, r .0)),
+      ne-eqb c 9 (λ z. omega (arith, r .0)),
+      ne-eqb c 10 (λ z. omega (arith, r .0)),
+      ne-eqb c 13 (λ z. omega (arith, r .0)),
+    ) tt
+
+all-in-word : (l : List ℕ) → T (all isDigit l) → T (all isInWord l)
+all-in-word [] t = tt
+all-in-word (c ∷ l) t =
+    both (isInWord c) (all isInWord l) (digit-in-word c (and-left (isDigit c) (all isDigit l) t)) (all-in-word l (and-right (isDigit c) (all isDigit l) t))
+
+not-blank : (w : List ℕ) → T (all isInWord w) → T (stops isBlank w)
+unfolding isInWord
+not-blank [] t = tt
+not-blank (c ∷ w) t = and-left (not (isBlank c)) (all isInWord w) t
+
+first-digit : (w : List ℕ) → T (all isDigit w) → 0 < length w → isDigit (getD w 0 0) ≡ true
+first-digit [] t h = absurd (omega (arith, h))
+first-digit (c ∷ w) t h = truth (isDigit c) (and-left (isDigit c) (all isDigit w) t)
+
+-- ---- a number is read back
+unsigned-back : (n : ℕ) → n < 2 ^ 64 → unsignedOf (decimal n) ≡ Value n
+unsigned-back n h =
+    let w = decimal n in
+    let l : leading isDigit w ≡ length w = ap (leading isDigit) (sym (append-nil w)) ∙ all-leading isDigit w [] (decimal-digits n) tt in
+    sym (unsigned-all w (leading isDigit w) refl (λ z. omega (arith, z, l, decimal-some n)) (omega (arith, l))) ∙ ap limited (decimal-value n) ∙ sym (limited-value n h)
+
+number-low : (v : ℕ) → v < 2 ^ 63 → numberOf (signed v) ≡ Value v
+number-low v h =
+    let f = digit-range (getD (decimal v) 0 0) (first-digit (decimal v) (decimal-digits v) (decimal-some v)) in
+    ap numberOf (sym (signed-low v h)) ∙ sym (signed-plain (decimal v) (λ z. omega (arith, z, f .0))) ∙ unsigned-back v (omega (arith, h))
+
+number-high : (v : ℕ) → 2 ^ 63 ≤ v → v < 2 ^ 64 → numberOf (signed v) ≡ Value v
+number-high v g h =
+    let d = 18446744073709551615 - v + 1 in
+    let e : 18446744073709551615 - d + 1 ≡ v = omega arith in
+    ap numberOf (sym (signed-high v g h)) ∙ sym (signed-minus (45 ∷ decimal d) refl) ∙ ap negated (unsigned-back d (omega arith))
+    ∙ sym (negated-value d (λ z. omega (arith, z)) (omega arith)) ∙ ap Value e
+
+number-back : (v : ℕ) → v < 2 ^ 64 → numberOf (signed v) ≡ Value v
+number-back v h = cases v (2 ^ 63) (number-low v) (λ g. number-high v g h)
+
+signed-word : (v : ℕ) → v < 2 ^ 64 → T (all isInWord (signed v))
+unfolding isInWord isBlank
+signed-word v h =
+    cases v (2 ^ 63)
+    (λ l. subst (λ (w : List ℕ). T (all isInWord w)) (signed-low v l) (all-in-word (decimal v) (decimal-digits v)))
+    (λ g.
+    let d = 18446744073709551615 - v + 1 in
+    subst (λ (w : List ℕ). T (all isInWord w)) (signed-high v g h) (all-in-word (decimal d) (decimal-digits d)))
+
+signed-some : (v : ℕ) → v < 2 ^ 64 → 0 < length (signed v)
+signed-some v h =
+    cases v (2 ^ 63)
+    (λ l. omega (arith, ap length (signed-low v l), decimal-some v))
+    (λ g. omega (arith, ap length (signed-high v g h)))
+
+-- ---- a word, or none
+by-some : (w : Word) (a b : Line) → 0 < length (w .bytes) → byWord w a b ≡ b
+by-some w a b h = rw (ne-eqb (length (w .bytes)) 0 (λ z. omega (arith, z, h)))
+
+by-none : (w : Word) (a b : Line) → length (w .bytes) ≡ 0 → byWord w a b ≡ a
+by-none w a b h = rw (eq-eqb (length (w .bytes)) 0 h)
+
+-- ---- the end of a line, and the operand before it
+ended-back : (op count v p : ℕ) → ended op count v p (10 ∷ []) ≡ Instruction op count v
+unfolding ended isBlank
+ended-back op count v p = by-none (firstWord p (10 ∷ [])) (Instruction op count v) _ (last-blanks p (10 ∷ []) tt)
+
+operand-back : (op count v p : ℕ) → v < 2 ^ 64 → v < 256 ^ count → fromOperand op count p ((32 ∷ []) ++ (signed v ++ (10 ∷ []))) ≡ Instruction op count v
+unfolding fromOperand isInWord isBlank
+operand-back op count v p h l =
+    let w : Word = record { column = p + 1; bytes = signed v; rest = 10 ∷ [] } in
+    let f = first-word p (32 ∷ []) (signed v) (10 ∷ []) tt (signed-word v h) (not-blank (signed v) (signed-word v h)) (signed-some v h) tt in
+    ap (operandBy op count) f ∙ by-some w _ (byNumber op count w (numberOf (signed v))) (signed-some v h)
+    ∙ ap (byNumber op count w) (number-back v h) ∙ rw (lt-ltb v (256 ^ count) l) (ended-back op count v (behind w))
+
+spaces : (n : ℕ) → T (all isBlank (replicate n 32))
+unfolding isBlank
+spaces zero = tt
+spaces (suc n) = spaces n
+
+-- ---- the line from the name on
+abbrev tail : ℕ → ℕ → List ℕ
+tail count v = operandText count v ++ (10 ∷ [])
+
+tail-none : (count v : ℕ) → count ≡ 0 → 10 ∷ [] ≡ tail count v
+tail-none count v h = ap (λ (l : List ℕ). l ++ (10 ∷ [])) (operand-none count v h)
+
+tail-some : (count v : ℕ) → (count ≡ 0 → ⊥) → (32 ∷ []) ++ (signed v ++ (10 ∷ [])) ≡ tail count v
+tail-some count v h = ap (λ (l : List ℕ). l ++ (10 ∷ [])) (operand-some count v h)
+
+tail-stops : (count v : ℕ) → T (stops isInWord (tail count v))
+unfolding isInWord isBlank
+tail-stops count v =
+    cases 0 count
+    (λ g. subst (λ (l : List ℕ). T (stops isInWord l)) (tail-some count v (λ z. omega (arith, z, g))) tt)
+    (λ l. subst (λ (m : List ℕ). T (stops isInWord m)) (tail-none count v (omega (arith, l))) tt)
+
+module _ (op count v : ℕ) (good : GoodName op) (is : count ≡ operandsOf op) (low : v < 2 ^ 64) (fits : v < 256 ^ count) where
+  rest-back : (p : ℕ) → cond (eqb count 0) (ended op 0 0 p (tail count v)) (fromOperand op count p (tail count v)) ≡ Instruction op count v
+  rest-back p =
+      cases 0 count
+      (λ g.
+      let n : count ≡ 0 → ⊥ = λ z. omega (arith, z, g) in
+      rw (ne-eqb count 0 n) (ap (fromOperand op count p) (sym (tail-some count v n)) ∙ operand-back op count v p low fits))
+      (λ l.
+      let z : count ≡ 0 = omega (arith, l) in
+      let o : v < 256 ^ 0 = rw z at fits in
+      let y : v ≡ 0 = omega (arith, o) in
+      rw (eq-eqb count 0 z) (ap (ended op 0 0 p) (sym (tail-none count v z)) ∙ ended-back op 0 0 p ∙ ap (λ (x : ℕ). Instruction op x 0) (sym z) ∙ ap (Instruction op count) (sym y)))
+
+  name-back : (p : ℕ) → fromName p ((32 ∷ 32 ∷ []) ++ (nameOf op ++ tail count v)) ≡ Instruction op count v
+  unfolding fromName isBlank
+  name-back p =
+      let w : Word = record { column = p + 2; bytes = nameOf op; rest = tail count v } in
+      let f = first-word p (32 ∷ 32 ∷ []) (nameOf op) (tail count v) tt (good .word) (not-blank (nameOf op) (good .word)) (good .some) (tail-stops count v) in
+      ap nameBy f ∙ by-some w _ (byOpcode (opcodeOf (nameOf op)) w) (good .some) ∙ ap (λ (x : ℕ). byOpcode x w) (good .back)
+      ∙ rw (ne-eqb op 53 (λ z. omega (arith, z, good .low)), ← is) (rest-back (behind w))
+
+  -- ---- the whole line
+  pub line-back : (at : ℕ) → at < 2 ^ 64 → readLine at (textOf at op count v) ≡ Instruction op count v
+  unfolding readLine textOf aligned isInWord isBlank
+  line-back at h =
+      let d = decimal at in
+      let b : List ℕ = replicate (3 - length d) 32 in
+      let r : List ℕ = (32 ∷ 32 ∷ []) ++ (nameOf op ++ tail count v) in
+      let t = all-in-word d (decimal-digits at) in
+      let w : Word = record { column = 0 + length b; bytes = d; rest = r } in
+      let line = (b ++ d) ++ r in
+      let f : firstWord 0 line ≡ w = ap (firstWord 0) (append-assoc b d r) ∙ first-word 0 b d r (spaces (3 - length d)) t (not-blank d t) (decimal-some at) tt in
+      ap (lineBy at line) f ∙ by-some w _ _ (decimal-some at)
+      ∙ rw (first-digit d (decimal-digits at) (decimal-some at)) (ap (byOffset at w) (unsigned-back at h) ∙ rw (eq-eqb at at refl) (name-back (behind w)))
+
+-- ---- line feeds
+abbrev isNoFeed : ℕ → Bool
+isNoFeed c = not (eqb c 10)
+
+no-feed : (c : ℕ) → T (isInWord c) → T (isNoFeed c)
+unfolding isInWord isBlank
+no-feed c t = elim (ℕ-discrete c 10) [ yes e ↦ absurd (subst (λ (x : ℕ). T (isInWord x)) e t) | no n ↦ rw (ne-eqb c 10 n) tt ]
+
+feedless-word : (w : List ℕ) → T (all isInWord w) → T (all isNoFeed w)
+feedless-word [] t = tt
+feedless-word (c ∷ w) t =
+    both (isNoFeed c) (all isNoFeed w) (no-feed c (and-left (isInWord c) (all isInWord w) t)) (feedless-word w (and-right (isInWord c) (all isInWord w) t))
+
+feedless-spaces : (n : ℕ) → T (all isNoFeed (replicate n 32))
+feedless-spaces zero = tt
+feedless-spaces (suc n) = feedless-spaces n
+
+feedless-operand : (count v : ℕ) → v < 2 ^ 64 → T (all isNoFeed (operandText count v))
+feedless-operand count v h =
+    cases 0 count
+    (λ g. subst (λ (l : List ℕ). T (all isNoFeed l)) (operand-some count v (λ z. omega (arith, z, g))) (feedless-word (signed v) (signed-word v h)))
+    (λ l. subst (λ (m : List ℕ). T (all isNoFeed m)) (operand-none count v (omega (arith, l))) tt)
+
+-- the text of one line and then r
+line-divided : (a r : List ℕ) → T (all isNoFeed a) → linesOf ((a ++ (10 ∷ [])) ++ r) ≡ (a ++ (10 ∷ [])) ∷ linesOf r
+unfolding linesOf
+line-divided [] r t = refl
+line-divided (c ∷ a) r t =
+    let u = and-left (isNoFeed c) (all isNoFeed a) t in
+    let i = line-divided a r (and-right (isNoFeed c) (all isNoFeed a) t) in
+    rw (not-true (eqb c 10) (truth (not (eqb c 10)) u)) (ap (onto c) i)
+
+-- an operand is a word of 64 bits
+pub word-low : (op v : ℕ) → v < 256 ^ operandsOf op → v < 2 ^ 64
+word-low op v h = omega (arith, h, pow-le-pow-right (lit< {m = 0} {n = 256} tt) (operands-most op))
+
+-- ---- an instruction of an expression e, whose bytes are below 256
+module _ (e : List ℕ) (low : (j : ℕ) → getD e j 0 < 256) where
+  module _ (k : ℕ) (i : Instructed e k) where
+    operand-below : operand e k < 256 ^ operandBytes e k
+    unfolding operand
+    operand-below = big-below e (k + 1) (operandBytes e k) low
+
+    operand-low : operand e k < 2 ^ 64
+    operand-low = word-low (getD e k 0) (operand e k) operand-below
+
+    pub instruction-back : k < 2 ^ 64 → readLine k (textAt e k) ≡ Instruction (getD e k 0) (operandBytes e k) (operand e k)
+    unfolding textAt
+    instruction-back h = line-back (getD e k 0) (operandBytes e k) (operand e k) (good-name (getD e k 0) (i .supported)) refl operand-low operand-below k h
+
+    -- its bytes are those of the expression
+    pub instruction-bytes : lineBytes (Instruction (getD e k 0) (operandBytes e k) (operand e k)) ≡ take (1 + operandBytes e k) (drop k e)
+    unfolding operand
+    instruction-bytes =
+        let n = operandBytes e k in
+        let t : drop k e ≡ getD e k 0 ∷ drop (k + 1) e = rw (add-one, drop-cons e k 0 (i .inside)) in
+        let s : 1 + n ≡ suc n = omega arith in
+        ap (λ (l : List ℕ). getD e k 0 ∷ l) (bytes-of-big e (k + 1) n low (i .whole))
+        ∙ sym (ap (λ (j : ℕ). take j (drop k e)) s ∙ ap (take (suc n)) t)
+
+  -- ---- a listing from offset i on
+  abbrev Back : ℕ → Type 0
+  Back i = length e < 2 ^ 64 → T (allInstructions e (startsFrom e i)) → readLines i (listingFrom e i) ≡ bytes (drop i e)
+
+  back-end : (i : ℕ) → length e ≤ i → Back i
+  unfolding listingFrom readLines
+  back-end i h s t = ap (λ (l : List ℕ). readLines i (map (textAt e) l)) (from-end e i h) ∙ ap bytes (sym (drop-of-length-le e h))
+
+  back-next : (i : ℕ) → i < length e → Back (next e i) → Back i
+  unfolding listingFrom readLines
+  back-next i h b s t =
+      let u : T (isInstruction e i && allInstructions e (startsFrom e (next e i))) = subst (λ (l : List ℕ). T (allInstructions e l)) (from-next e i h) t in
+      let c = instructed e i (truth (isInstruction e i) (and-left (isInstruction e i) (allInstructions e (startsFrom e (next e i))) u)) in
+      let g = b s (and-right (isInstruction e i) (allInstructions e (startsFrom e (next e i))) u) in
+      let n = operandBytes e i in
+      let m = Instruction (getD e i 0) n (operand e i) in
+      let d = lineBytes m in
+      let z : d ≡ take (1 + n) (drop i e) = instruction-bytes i c in
+      let y : i + length d ≡ next e i = omega (arith, length-big n (operand e i)) in
+      let q : i + (1 + n) ≡ next e i = omega arith in
+      let x : drop (1 + n) (drop i e) ≡ drop (next e i) e = drop-drop (1 + n) i e ∙ ap (λ (j : ℕ). drop j e) q in
+      let r = map (textAt e) (startsFrom e (next e i)) in
+      ap (λ (l : List ℕ). readLines i (map (textAt e) l)) (from-next e i h)
+      ∙ ap (λ (l : Line). thenLines l (λ a. afterBytes a (readLines (i + length a) r))) (instruction-back i c (omega (arith, s, h)))
+      ∙ ap (λ (j : ℕ). afterBytes d (readLines j r)) y
+      ∙ ap (afterBytes d) g
+      ∙ ap bytes (ap (λ (l : List ℕ). l ++ drop (next e i) e) z ∙ ap (λ (l : List ℕ). take (1 + n) (drop i e) ++ l) (sym x) ∙ take-append-drop (1 + n) (drop i e))
+
+  pub listing-back : (i : ℕ) → length e < 2 ^ 64 → T (allInstructions e (startsFrom e i)) → readLines i (listingFrom e i) ≡ bytes (drop i e)
+  listing-back = by-starts e Back back-end back-next
+
+  -- ---- a listing as one text: no line has a line feed but at its end
+  feedless : (k : ℕ) → Instructed e k
+      → T (all isNoFeed (((aligned (decimal k) ++ (32 ∷ 32 ∷ [])) ++ nameOf (getD e k 0)) ++ operandText (operandBytes e k) (operand e k)))
+  unfolding aligned
+  feedless k i =
+      let d = decimal k in
+      let b : List ℕ = replicate (3 - length d) 32 in
+      let s : List ℕ = 32 ∷ 32 ∷ [] in
+      let n = nameOf (getD e k 0) in
+      all-append isNoFeed (((b ++ d) ++ s) ++ n) (operandText (operandBytes e k) (operand e k))
+      (all-append isNoFeed ((b ++ d) ++ s) n
+      (all-append isNoFeed (b ++ d) s (all-append isNoFeed b d (feedless-spaces (3 - length d)) (feedless-word d (all-in-word d (decimal-digits k)))) tt)
+      (feedless-word n (good-name (getD e k 0) (i .supported) .word)))
+      (feedless-operand (operandBytes e k) (operand e k) (operand-low k i))
+
+  lines-back : (ks : List ℕ) → T (allInstructions e ks) → linesOf (joined (map (textAt e) ks)) ≡ map (textAt e) ks
+  unfolding linesOf
+  lines-back [] t = refl
+  lines-back (k ∷ ks) t =
+      let i = instructed e k (truth (isInstruction e k) (and-left (isInstruction e k) (allInstructions e ks) t)) in
+      let f = ((aligned (decimal k) ++ (32 ∷ 32 ∷ [])) ++ nameOf (getD e k 0)) ++ operandText (operandBytes e k) (operand e k) in
+      let q : f ++ (10 ∷ []) ≡ textAt e k = text-parts e k (getD e k 0) (operandBytes e k) (operand e k) refl refl refl in
+      let r = joined (map (textAt e) ks) in
+      ap (λ (l : List ℕ). linesOf (l ++ r)) (sym q) ∙ line-divided f r (feedless k i) ∙ ap (λ (l : List ℕ). l ∷ linesOf r) q
+      ∙ ap (λ (ls : List (List ℕ)). textAt e k ∷ ls) (lines-back ks (and-right (isInstruction e k) (allInstructions e ks) t))
+
+  pub text-back : length e < 2 ^ 64 → T (allInstructions e (startsFrom e 0)) → readText (listingText e) ≡ bytes e
+  unfolding readText listingText listing listingFrom
+  text-back h t = ap (readLines 0) (lines-back (startsFrom e 0) t) ∙ listing-back 0 h t

@@ -1,0 +1,11 @@
+-- `Promises` is the page for users of this crate; the others hold the work behind it.
+pub mod Promises
+mod BigBytes
+mod Decimals
+mod Inverse
+mod Leading
+mod Lining
+mod Numbering
+mod Opcodes
+mod Texting
+mod Wording

@@ -1,0 +1,152 @@
+-- Rules over every opcode of the table, and the names. Assumes nothing.
+use Prim.Native.Nat.{ℕ, zero, suc, _+_, _-_, _≤_, _<_}
+use Prim.Native.String.{String}
+use native.Mathlib.Nat.{not-suc-le-zero}
+use native.Mathlib.Decide.{ℕ-discrete}
+use native.Mathlib.Numerals.{add-one}
+use native.Mathlib.Omega.{arith}
+use mathlib.Core.Bool.{Bool, true, false, cond, _&&_}
+use mathlib.Core.List.{List, [], _∷_}
+use mathlib.Core.Path.{_≡_, refl, sym, ap, subst, _∙_}
+use lib.Dec.{T, eqb, leb, ltb, eqb→eq, eqb-refl, ltb→lt, leb→le}
+use lib.ListN.{length, getD, drop, take, drop-of-length-le}
+use lib.Seq.{drop-cons}
+use borrow.Author.Tests.{lt-ltb}
+use Rattle.encoding.proofs.Promises.{and-left, and-right}
+use Rattle.isa.specs.Classes.{kind-unsupported, kind, classOf, opcodes}
+use Rattle.isa.specs.Document.{below}
+use Rattle.isa.proofs.Promises.{known-low}
+use Rattle.report.specs.Hex.{isBlank}
+use Rattle.listing.specs.Names.{names, nameOf, sameBytes, placeFrom, opcodeOf, table}
+use Rattle.listing.specs.Numbers.{leading}
+use Rattle.listing.specs.Words.{isInWord}
+use Rattle.listing.proofs.Leading.{all, both}
+
+-- ---- a test of every opcode below n
+pub below-at : (n : ℕ) (f : ℕ → Bool) → T (below n f) → (k : ℕ) → k < n → T (f k)
+below-at zero f t k h = absurd (not-suc-le-zero h)
+below-at (suc n) f t k h =
+    elim (ℕ-discrete k n) [
+      | yes e ↦ subst (λ (x : ℕ). T (f x)) (sym e) (and-left (f n) (below n f) t)
+      | no e ↦ below-at n f (and-right (f n) (below n f) t) k (omega arith)
+    ]
+
+-- ---- texts are the same, or they are not
+pub same-sound : (xs ys : List ℕ) → T (sameBytes xs ys) → xs ≡ ys
+same-sound [] [] t = refl
+same-sound [] (y ∷ ys) t = absurd t
+same-sound (x ∷ xs) [] t = absurd t
+same-sound (x ∷ xs) (y ∷ ys) t =
+    let e : x ≡ y = eqb→eq x y (and-left (eqb x y) (sameBytes xs ys) t) in
+    let f = same-sound xs ys (and-right (eqb x y) (sameBytes xs ys) t) in
+    ap (λ (z : ℕ). z ∷ xs) e ∙ ap (λ (l : List ℕ). y ∷ l) f
+
+same-refl : (xs : List ℕ) → T (sameBytes xs xs)
+same-refl [] = tt
+same-refl (x ∷ xs) = both (eqb x x) (sameBytes xs xs) (eqb-refl x) (same-refl xs)
+
+agree : (r b : Bool) → (r ≡ true → T b) → (T b → r ≡ true) → r ≡ b
+agree true true f g = refl
+agree true false f g = absurd (f refl)
+agree false true f g = g tt
+agree false false f g = refl
+
+pub same-decides : (r : Bool) (xs ys : List ℕ) → (r ≡ true → xs ≡ ys) → (xs ≡ ys → r ≡ true) → r ≡ sameBytes xs ys
+same-decides r xs ys f g = agree r (sameBytes xs ys) (λ e. subst (λ (l : List ℕ). T (sameBytes xs l)) (f e) (same-refl xs)) (λ t. g (same-sound xs ys t))
+
+-- ---- a row of the code's table is the name up to the first space
+rows-right : T (below 53 (λ op. sameBytes (take (leading isInWord (getD table op [])) (getD table op [])) (nameOf op)))
+unfolding table names nameOf isInWord isBlank
+rows-right = tt
+
+pub name-row : (op : ℕ) → op < 53 → take (leading isInWord (getD table op [])) (getD table op []) ≡ nameOf op
+name-row op h =
+    same-sound _ _
+    (below-at 53 (λ op. sameBytes (take (leading isInWord (getD table op [])) (getD table op [])) (nameOf op)) rows-right op h)
+
+-- ---- the loop of `find`: no name below op is w
+pub record Finding (w : List ℕ) (op : ℕ) : Type 0 where
+  pub most : op ≤ 53
+  pub rest : opcodeOf w ≡ placeFrom op (drop op names) w
+
+names-length : length names ≡ 53
+unfolding names
+names-length = refl
+
+pub finding-start : (w : List ℕ) → Finding w 0
+unfolding opcodeOf
+finding-start w = record { most = omega arith; rest = refl }
+
+module _ {w : List ℕ} {op : ℕ} (f : Finding w op) where
+  module _ (more : op < 53) (b : Bool) (is : b ≡ sameBytes (nameOf op) w) where
+    at-name : opcodeOf w ≡ cond b op (placeFrom (op + 1) (drop (op + 1) names) w)
+    unfolding placeFrom nameOf
+    at-name =
+        let d : drop op names ≡ getD names op "" ∷ drop (op + 1) names = rw add-one (drop-cons names op "" (omega (arith, names-length))) in
+        f .rest ∙ ap (λ (l : List String). placeFrom op l w) d ∙ ap (λ (t : Bool). cond t op (placeFrom (op + 1) (drop (op + 1) names) w)) (sym is)
+
+    pub finding-here : b ≡ true → (op ≡ opcodeOf w) × (op ≤ 53)
+    finding-here t = (sym (rw t at at-name), f .most)
+
+    pub finding-on : b ≡ false → Finding w (op + 1)
+    finding-on n = record { most = omega arith; rest = rw n at at-name }
+
+  pub finding-none : 53 ≤ op → (op ≡ opcodeOf w) × (op ≤ 53)
+  unfolding placeFrom
+  finding-none h = (sym (f .rest ∙ ap (λ (l : List String). placeFrom op l w) (let n : length names ≤ op = omega (arith, names-length) in drop-of-length-le names n)), f .most)
+
+-- ---- a supported opcode: its name is a word that does not begin with a digit, and is the name of no opcode before it
+abbrev nameGood : ℕ → Bool
+nameGood op =
+    cond (ltb kind-unsupported (kind (classOf op)))
+    (eqb (opcodeOf (nameOf op)) op && (all isInWord (nameOf op) && (ltb 0 (length (nameOf op)) && leb (length (nameOf op)) 13))) true
+
+names-good : T (below 53 nameGood)
+unfolding opcodeOf placeFrom names nameOf isInWord isBlank opcodes classOf
+names-good = tt
+
+pub record GoodName (op : ℕ) : Type 0 where
+  pub low : op < 53
+  pub back : opcodeOf (nameOf op) ≡ op
+  pub word : T (all isInWord (nameOf op))
+  pub some : 0 < length (nameOf op)
+  pub most : length (nameOf op) ≤ 13
+
+pub good-name : (op : ℕ) → kind-unsupported < kind (classOf op) → GoodName op
+good-name op h =
+    let l = known-low op (omega arith) in
+    let t = rw (lt-ltb kind-unsupported (kind (classOf op)) h) at (below-at 53 nameGood names-good op l) in
+    let back = eqb (opcodeOf (nameOf op)) op in
+    let word = all isInWord (nameOf op) in
+    let some = ltb 0 (length (nameOf op)) in
+    let most = leb (length (nameOf op)) 13 in
+    let u = and-right back (word && (some && most)) t in
+    let v = and-right word (some && most) u in
+    record {
+      low = l;
+      back = eqb→eq (opcodeOf (nameOf op)) op (and-left back (word && (some && most)) t);
+      word = and-left word (some && most) u;
+      some = ltb→lt 0 (length (nameOf op)) (and-left some most v);
+      most = leb→le (length (nameOf op)) 13 (and-right some most v);
+    }
+
+-- ---- a row t of the table as the code reads it
+rows-wide : T (below 53 (λ op. eqb (length (getD table op [])) 13))
+unfolding table names
+rows-wide = tt
+
+module _ (t : List (List ℕ)) (op : ℕ) (is : t ≡ table) (h : op < 53) where
+  pub row-length : 13 ≡ length (getD t op [])
+  row-length =
+      rw is (sym (eqb→eq (length (getD table op [])) 13 (below-at 53 (λ op. eqb (length (getD table op [])) 13) rows-wide op h)))
+
+  module _ (n : ℕ) (count : n ≡ leading isInWord (getD t op [])) where
+    pub row-name : take (n - 0) (getD t op []) ≡ nameOf op
+    row-name =
+        let e : n - 0 ≡ leading isInWord (getD t op []) = omega (arith, count) in
+        ap (λ (j : ℕ). take j (getD t op [])) e
+        ∙ ap (λ (u : List (List ℕ)). take (leading isInWord (getD u op [])) (getD u op [])) is
+        ∙ name-row op h
+
+    pub row-is : (r : Bool) (w : List ℕ) → (r ≡ true → take (n - 0) (getD t op []) ≡ w) × (take (n - 0) (getD t op []) ≡ w → r ≡ true) → r ≡ sameBytes (nameOf op) w
+    row-is r w e = same-decides r (nameOf op) w (λ q. sym row-name ∙ e .0 q) (λ q. e .1 (row-name ∙ q))

@@ -1,0 +1,54 @@
+use borrow.Author.Needs.{needs}
+use denote.Ref.{now}
+use Prim.Native.Nat.{ℕ}
+use mathlib.Core.List.{List, _++_}
+use mathlib.Core.Path.{subst}
+use Rattle.report.specs.Text.{Text}
+use Rattle.listing.proofs.Opcodes.{row-length, row-name}
+use Rattle.listing.proofs.names.append_from.Statement.{statement}
+use Rattle.listing.proofs.names.append_from.Tie as tie
+
+mul-name : tie.Need-mul-name
+mul-name c = search needs
+
+element-copy-out-name : tie.Need-element-copy-out-name
+element-copy-out-name c = search needs
+
+slice-aggregate-word-length : tie.Need-slice-aggregate-word-length
+slice-aggregate-word-length c = let a = c .before .before .before .args in row-length (now (a .names)) (a .opcode) (c .before .before .before .pre .0) (c .before .before .before .pre .1)
+
+word-length-requires : tie.Need-word-length-requires
+word-length-requires c κs = search needs
+
+sub-append : tie.Need-sub-append
+sub-append c = search needs
+
+part-append-start : tie.Need-part-append-start
+part-append-start c = search needs
+
+part-append-end : tie.Need-part-append-end
+part-append-end c = search needs
+
+append-requires : tie.Need-append-requires
+append-requires c κs = search needs
+
+same-length : tie.Need-same-length
+same-length c = search needs
+
+returns : tie.Need-returns
+returns c = let a = c .before .before .before .before .before .before .before .before .before .before .args in let q = row-name (now (a .names)) (a .opcode) (c .before .before .before .before .before .before .before .before .before .before .pre .0) (c .before .before .before .before .before .before .before .before .before .before .pre .1) _ (c .before .before .before .before .before .before .word-length .ensures .0) in let p = c .before .before .append in λ l t. subst (λ (m : List ℕ). Text (p .last .0) (p .result) (l ++ m)) q (p .ensures .1 l t)
+
+pub append-from-spec : {M : Type 1} → statement M
+append-from-spec =
+    tie.close
+    (tie.spec
+    mul-name
+    element-copy-out-name
+    slice-aggregate-word-length
+    word-length-requires
+    sub-append
+    part-append-start
+    part-append-end
+    append-requires
+    same-length
+    returns)

@@ -1,0 +1,37 @@
+-- The words of a line: what stands between its blanks.
+use Prim.Native.Nat.{ℕ, _+_, _-_, _≤_}
+use mathlib.Core.Bool.{Bool, not}
+use mathlib.Core.List.{List}
+use mathlib.Core.Path.{_≡_}
+use lib.ListN.{length, take, drop}
+use Rattle.report.specs.Hex.{isBlank}
+use Rattle.listing.specs.Numbers.{leading}
+use Rattle.listing.specs.declared.words.Place.{Place}
+
+unfoldable pub isInWord : ℕ → Bool
+isInWord c = not (isBlank c)
+
+-- a word, the column where it starts, counted from 0, and the text behind it; without bytes where the line has no further word
+pub record Word : Type 0 where
+  pub column : ℕ
+  pub bytes : List ℕ
+  pub rest : List ℕ
+
+abbrev pub wordAt : ℕ → List ℕ → Word
+wordAt c l = record { column = c; bytes = take (leading isInWord l) l; rest = drop (leading isInWord l) l }
+
+-- the first word of the text l, which starts at column p
+unfoldable pub firstWord : ℕ → List ℕ → Word
+firstWord p l = wordAt (p + leading isBlank l) (drop (leading isBlank l) l)
+
+-- the column behind a word
+abbrev pub behind : Word → ℕ
+behind w = w .column + length (w .bytes)
+
+-- the word w of a line is where the code says
+pub record IsAt (line : List ℕ) (r : Place) (w : Word) : Type 0 where
+  pub start-is : r .start ≡ w .column
+  pub end-is : r .end ≡ behind w
+  pub within : r .end ≤ length line
+  pub bytes-is : take (r .end - r .start) (drop (r .start) line) ≡ w .bytes
+  pub rest-is : drop (r .end) line ≡ w .rest

@@ -1,0 +1,6 @@
+// Listings of expressions: an instruction as GDB's `maint agent` prints it, and such a line read back.
+mod names;
+mod numbers;
+pub mod reading;
+mod words;
+pub mod writing;

@@ -1,0 +1,129 @@
+// Numbers in decimal, and their bytes with the most significant first.
+ghost use mathlib.Core.Path.{_≡_};
+ghost use Prim.Native.Nat.{_+_, _<_, _≤_, _^_};
+ghost use lib.Dec.{T, ltb};
+ghost use lib.ListN.{length};
+ghost use Rattle.encoding.specs.Written.{writtenAt};
+ghost use Rattle.listing.specs.Numbers.{leading, isDigit, valueFrom, limited, unsignedOf, negated, numberOf, bigBytes, isWidth};
+
+// What a word is as a number of 64 bits: its value; more than they can hold; or no number.
+pub enum Number {
+    Value(u64),
+    Large,
+    Not,
+}
+
+pub fn is_digit(c: u8) -> bool
+    ensures { λ r. ⌜ r ≡ isDigit c ⌝ }
+{
+    if c < b'0' {
+        return false;
+    }
+    c <= b'9'
+}
+
+// The number of digits at the start.
+fn digits(text: &[u8]) -> usize
+    ensures { λ r. ⌜ (r ≡ leading isDigit (now (text .entry))) × (r ≤ length (now (text .entry))) ⌝ }
+{
+    let mut n = 0;
+    while n < text.len() {
+        if !is_digit(text[n]) {
+            return n;
+        }
+        n += 1;
+    }
+    n
+}
+
+fn value(text: &[u8]) -> Number
+    requires { ⌜ length (now text) ≤ leading isDigit (now text) ⌝ }
+    ensures { λ r. ⌜ r ≡ limited (valueFrom 0 (now (text .entry))) ⌝ }
+{
+    let mut value: u64 = 0;
+    let mut n = 0;
+    while n < text.len() {
+        let digit = encoding::wide(text[n]) - 48;
+        if 1844674407370955161 < value {
+            return Number::Large;
+        }
+        let tens = value * 10;
+        if u64::MAX - tens < digit {
+            return Number::Large;
+        }
+        value = tens + digit;
+        n += 1;
+    }
+    Number::Value(value)
+}
+
+// A word that is digits only.
+pub fn unsigned(word: &[u8]) -> Number
+    ensures { λ r. ⌜ r ≡ unsignedOf (now (word .entry)) ⌝ }
+{
+    let n = digits(word);
+    if n == 0 {
+        return Number::Not;
+    }
+    if n < word.len() {
+        return Number::Not;
+    }
+    value(word)
+}
+
+// The word of 64 bits for the negative of a number.
+fn negative(number: Number) -> Number
+    ensures { λ r. ⌜ r ≡ negated number ⌝ }
+{
+    match number {
+        Number::Large => Number::Large,
+        Number::Not => Number::Not,
+        Number::Value(d) => {
+            if d == 0 {
+                return Number::Large;
+            }
+            if d <= 9223372036854775808 {
+                return Number::Value(u64::MAX - d + 1);
+            }
+            Number::Large
+        }
+    }
+}
+
+// A word that is digits, with or without a minus in front.
+pub fn signed(word: &[u8]) -> Number
+    requires { ⌜ 0 < length (now word) ⌝ }
+    ensures { λ r. ⌜ r ≡ numberOf (now (word .entry)) ⌝ }
+{
+    if word[0] == b'-' {
+        return negative(unsigned(&word[1..]));
+    }
+    unsigned(word)
+}
+
+// Whether so many bytes can hold the value.
+pub fn fits(value: u64, count: usize) -> bool
+    requires { ⌜ T (isWidth count) ⌝ }
+    ensures { λ r. ⌜ r ≡ ltb value (256 ^ count) ⌝ }
+{
+    match count {
+        1 => value < 256,
+        2 => value < 65536,
+        4 => value < 4294967296,
+        _ => true,
+    }
+}
+
+// Writes the `count` bytes of `value` from `at` on, most significant byte first.
+pub fn put_big(out: &mut [u8], at: usize, value: u64, count: usize)
+    requires { ⌜ at + count ≤ length (now out) ⌝ }
+    ensures { λ _. ⌜ now (out .exit) ≡ writtenAt (now (out .entry)) at (bigBytes count value) ⌝ }
+{
+    let mut rest = value;
+    let mut left = count;
+    while 0 < left {
+        left -= 1;
+        out[at + left] = (rest % 256) as u8;
+        rest = rest / 256;
+    }
+}

@@ -1,0 +1,41 @@
+-- `report::hex::append_byte` meets its contract. Assumes nothing.
+use borrow.Author.Needs.{needs}
+use Prim.Native.Nat.{ℕ}
+use mathlib.Core.List.{List, _++_}
+use mathlib.Core.Path.{subst}
+use Rattle.report.proofs.HexWriting.{pair-is}
+use Rattle.report.specs.Text.{Text}
+use Rattle.report.proofs.hex.append_byte.Statement.{statement}
+use Rattle.report.proofs.hex.append_byte.Tie as tie
+
+character-requires : tie.Need-character-requires
+character-requires c κs = search needs
+
+character-requires-2 : tie.Need-character-requires-2
+character-requires-2 c κs = search needs
+
+slice-aggregate-append : tie.Need-slice-aggregate-append
+slice-aggregate-append c = search needs
+
+append-requires : tie.Need-append-requires
+append-requires c κs = search needs
+
+same-length : tie.Need-same-length
+same-length c = search needs
+
+returns : tie.Need-returns
+returns c =
+    let p = c .before .before .append in
+    let pair = pair-is (c .before .before .before .before .before .before .before .before .args .byte) _ _ (c .before .before .before .before .before .before .character .ensures) (c .before .before .before .before .before .character2 .ensures) in
+    (p .ensures .0, λ l t. subst (λ (m : List ℕ). Text (p .last .0) (p .result) (l ++ m)) pair (p .ensures .1 l t))
+
+pub append-byte-spec : {M : Type 1} → statement M
+append-byte-spec =
+    tie.close
+    (tie.spec
+    character-requires
+    character-requires-2
+    slice-aggregate-append
+    append-requires
+    same-length
+    returns)
