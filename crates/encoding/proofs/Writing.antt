@@ -5,7 +5,7 @@ use Prim.Native.Nat.{ℕ, zero, suc, _+_, _-_, _≤_}
 use native.Mathlib.Nat.{zero-add, suc-add, le-of-suc-le-suc, not-suc-le-zero}
 use native.Mathlib.Omega.{arith}
 use lib.ListN.{length, take, drop, set, length-drop, drop-of-length-le, take-append-drop}
-use lib.Seq.{take-all}
+use lib.Seq.{take-all, take-nil, take-add, length-take-le}
 use Rattle.encoding.specs.Written.{writtenAt}
 
 pub written-length : (l : List ℕ) (a : ℕ) (e : List ℕ) → length (writtenAt l a e) ≡ length l
@@ -28,6 +28,28 @@ written-more [] a e f = refl
 written-more (x ∷ l) zero [] f = refl
 written-more (x ∷ l) zero (b ∷ e) f = let h = written-more l zero e f in rw zero-add (ap (λ r. b ∷ r) (rw zero-add at h))
 written-more (x ∷ l) (suc a) e f = rw suc-add (ap (λ r. x ∷ r) (written-more l a e f))
+
+-- a part of e, and then e over it
+written-again : (l : List ℕ) (a : ℕ) (e : List ℕ) (n : ℕ) → writtenAt (writtenAt l a (take n e)) a e ≡ writtenAt l a e
+unfolding writtenAt
+written-again [] a e n = refl
+written-again (x ∷ l) zero [] n = rw (take-nil, written-nothing)
+written-again (x ∷ l) zero (b ∷ e) zero = refl
+written-again (x ∷ l) zero (b ∷ e) (suc n) = ap (λ r. b ∷ r) (written-again l zero e n)
+written-again (x ∷ l) (suc a) e n = ap (λ r. x ∷ r) (written-again l a e n)
+
+-- the first k bytes of e, and then those from j on, which overlap them
+pub written-over : (l : List ℕ) (a : ℕ) (e : List ℕ) (j k : ℕ) → j ≤ k → k ≤ length e → writtenAt (writtenAt l a (take k e)) (a + j) (drop j e) ≡ writtenAt l a e
+written-over l a e j k h w =
+    let front = writtenAt l a (take j e) in
+    let seam : (r : List ℕ) → writtenAt front (a + j) r ≡ writtenAt l a (take j e ++ r)
+    = λ r. ap (λ (i : ℕ). writtenAt front (a + i) r) (sym (length-take-le j e (omega arith))) ∙ written-more l a (take j e) r in
+    let split : take k e ≡ take j e ++ take (k - j) (drop j e)
+    = ap (λ (i : ℕ). take i e) (let d : k ≡ j + (k - j) = omega arith in d) ∙ take-add j (k - j) e in
+    ap (λ (r : List ℕ). writtenAt r (a + j) (drop j e)) (ap (λ (r : List ℕ). writtenAt l a r) split ∙ sym (seam (take (k - j) (drop j e))))
+    ∙ written-again front (a + j) (drop j e) (k - j)
+    ∙ seam (drop j e)
+    ∙ ap (λ (r : List ℕ). writtenAt l a r) (take-append-drop j e)
 
 -- a single store
 pub written-store : (l : List ℕ) (a v : ℕ) → set l a v ≡ writtenAt l a (v ∷ [])

@@ -1,7 +1,7 @@
 // Numbers in bytes.
 ghost use mathlib.Core.Path.{_≡_};
 ghost use Prim.Native.Nat.{_+_, _<_, _≤_, _^_};
-ghost use lib.ListN.{length};
+ghost use lib.ListN.{length, take, drop};
 ghost use Rattle.encoding.specs.BigEndian.{bigEndian};
 ghost use Rattle.encoding.specs.LittleEndian.{littleEndian, littleBytes};
 ghost use Rattle.encoding.specs.Written.{writtenAt};
@@ -56,8 +56,8 @@ pub fn put_little(out: &mut [u8], at: usize, value: u64, count: usize)
     }
 }
 
-// Writes a copy of `bytes` from `at` on.
-pub fn put_bytes(out: &mut [u8], at: usize, bytes: &[u8])
+// Writes a copy of `bytes` from `at` on, byte by byte.
+fn put_each(out: &mut [u8], at: usize, bytes: &[u8])
     requires { ⌜ at + length (now bytes) ≤ length (now out) ⌝ }
     ensures { λ _. ⌜ now (out .exit) ≡ writtenAt (now (out .entry)) at (now (bytes .entry)) ⌝ }
 {
@@ -65,5 +65,48 @@ pub fn put_bytes(out: &mut [u8], at: usize, bytes: &[u8])
     while copied < bytes.len() {
         out[at + copied] = bytes[copied];
         copied += 1;
+    }
+}
+
+// Writes the `width` bytes from `from` on. They go through a local array, which overlaps neither slice. So they are all read before
+// the first is written, and where `width` is a literal the compiler moves them by one or two machine words.
+fn put_block(out: &mut [u8], at: usize, bytes: &[u8], from: usize, width: usize)
+    requires { ⌜ width ≤ 32 ⌝ ∗ ⌜ at + width ≤ length (now out) ⌝ ∗ ⌜ from + width ≤ length (now bytes) ⌝ }
+    ensures { λ _. ⌜ now (out .exit) ≡ writtenAt (now (out .entry)) at (take width (drop from (now (bytes .entry)))) ⌝ }
+{
+    let mut block = [0u8; 32];
+    put_each(&mut block, 0, &bytes[from..from + width]);
+    put_each(out, at, &block[..width]);
+}
+
+// The same as `put_each`, in blocks of `width`. The last one may overlap the one before, so that no single bytes are left.
+fn put_blocks(out: &mut [u8], at: usize, bytes: &[u8], width: usize)
+    requires { ⌜ 0 < width ⌝ ∗ ⌜ width ≤ 32 ⌝ ∗ ⌜ width ≤ length (now bytes) ⌝ ∗ ⌜ at + length (now bytes) ≤ length (now out) ⌝ }
+    ensures { λ _. ⌜ now (out .exit) ≡ writtenAt (now (out .entry)) at (now (bytes .entry)) ⌝ }
+{
+    let last = bytes.len() - width;
+    let mut moved = 0;
+    while moved < last {
+        put_block(out, at + moved, bytes, moved, width);
+        moved += width;
+    }
+    put_block(out, at + last, bytes, last, width);
+}
+
+// Writes a copy of `bytes` from `at` on. Up to 32 bytes are two blocks at most. With a width more the compiler no longer places the
+// trace instructions inside the run's loop, and each step costs more.
+pub fn put_bytes(out: &mut [u8], at: usize, bytes: &[u8])
+    requires { ⌜ at + length (now bytes) ≤ length (now out) ⌝ }
+    ensures { λ _. ⌜ now (out .exit) ≡ writtenAt (now (out .entry)) at (now (bytes .entry)) ⌝ }
+{
+    let count = bytes.len();
+    if count < 8 {
+        put_each(out, at, bytes);
+    } else if count <= 16 {
+        put_blocks(out, at, bytes, 8);
+    } else if count <= 32 {
+        put_blocks(out, at, bytes, 16);
+    } else {
+        put_blocks(out, at, bytes, 32);
     }
 }

@@ -167,21 +167,20 @@ fn smaller(a: usize, b: usize) -> usize
     b
 }
 
-// Searches the first `size` bytes. The loop has one limit, so that a byte costs two tests.
+// Searches the first `size` bytes. Both ends are one limit, so that a byte costs two tests.
 pub fn find_zero(bytes: &[u8], size: usize) -> Search
     ensures { λ r. ⌜ r ≡ searched size (now (bytes .entry)) ⌝ }
 {
     let limit = smaller(size, bytes.len());
     let mut passed = 0;
     let length = loop {
-        let next = passed + 1;
         if limit <= passed {
             break 0;
         }
         if bytes[passed] == 0 {
-            break next;
+            break passed + 1;
         }
-        passed = next;
+        passed += 1;
     };
     if 0 < length {
         return Search::Found(length);

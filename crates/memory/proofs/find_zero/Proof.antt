@@ -19,11 +19,14 @@ smaller-requires c κs = search needs
 loop-holds : tie.Need-loop-holds Inv-loop μ-loop
 loop-holds c = passed-start _ _
 
-add-next : tie.Need-add-next Inv-loop μ-loop
-add-next c = search needs
-
 shared-slice-read-if2 : tie.Need-shared-slice-read-if2 Inv-loop μ-loop
 shared-slice-read-if2 c = omega (arith, c .before .before .before .smaller .ensures)
+
+add-length : tie.Need-add-length Inv-loop μ-loop
+add-length c = search needs
+
+add-passed : tie.Need-add-passed Inv-loop μ-loop
+add-passed c = search needs
 
 loop-less : tie.Need-loop-less Inv-loop μ-loop
 loop-less c = omega (arith, c .before .before .before .before .smaller .ensures)
@@ -60,8 +63,9 @@ find-zero-spec =
     μ-loop
     smaller-requires
     loop-holds
-    add-next
     shared-slice-read-if2
+    add-length
+    add-passed
     loop-less
     loop-again
     returns

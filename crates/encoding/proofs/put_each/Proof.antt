@@ -3,8 +3,8 @@ use Prim.Native.Nat.{_-_}
 use lib.ListN.{length}
 use denote.Ref.{now}
 use Rattle.encoding.proofs.Putting.{PuttingBytes, bytes-start, bytes-turn, bytes-end}
-use Rattle.encoding.proofs.put_bytes.Statement.{statement}
-use Rattle.encoding.proofs.put_bytes.Tie as tie
+use Rattle.encoding.proofs.put_each.Statement.{statement}
+use Rattle.encoding.proofs.put_each.Tie as tie
 
 abbrev Inv-loop : tie.InvT-loop
 Inv-loop out₀ at bytes copied₀ out copied = PuttingBytes out₀ at bytes out copied
@@ -39,8 +39,8 @@ same-length c = c .before .loop .inv .same
 returns : tie.Need-returns Inv-loop μ-loop
 returns c = bytes-end (c .before .loop .inv) (c .loop-test .left)
 
-pub put-bytes-spec : {M : Type 1} → statement M
-put-bytes-spec =
+pub put-each-spec : {M : Type 1} → statement M
+put-each-spec =
     tie.close
     (tie.spec
     Inv-loop
