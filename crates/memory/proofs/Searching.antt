@@ -110,7 +110,7 @@ module _ {l : List ℕ} {size k : ℕ} (h : Passed l size k) where
   pub passed-end : k < size → length l ≤ k → Ended k ≡ searched size l
   passed-end s i = sym (rw (search-end l size k s i, add-zero) at (h .rest))
 
-  passed-zero : k < size → k < length l → getD l k 0 ≡ 0 → Found (k + 1) ≡ searched size l
+  pub passed-zero : k < size → k < length l → getD l k 0 ≡ 0 → Found (k + 1) ≡ searched size l
   passed-zero s i z = sym (rw (search-byte l size k s i, eq-eqb (getD l k 0) 0 z) at (h .rest))
 
   pub passed-turn : k < size → k < length l → getD l k 0 ≢ 0 → Passed l size (k + 1)
@@ -119,15 +119,3 @@ module _ {l : List ℕ} {size k : ℕ} (h : Passed l size k) where
     inside = omega arith;
     rest = rw (search-byte l size k s i, ne-eqb (getD l k 0) 0 z) at (h .rest) ∙ past-past k 1 (searched (size - (k + 1)) (drop (k + 1) l));
   }
-
--- ---- what the loop yields: the length up to and with the zero, or 0 where the first `limit` bytes have none
-pub record Yields (l : List ℕ) (size limit n : ℕ) : Type 0 where
-  pub found : 0 < n → Found n ≡ searched size l
-  pub none : n ≡ 0 → Passed l size limit
-
-module _ {l : List ℕ} {size k limit n : ℕ} (h : Passed l size k) where
-  pub yields-none : limit ≡ k → n ≡ 0 → Yields l size limit n
-  yields-none m e = record { found = λ p. absurd (omega arith); none = λ z. rw m h }
-
-  pub yields-zero : k < size → k < length l → getD l k 0 ≡ 0 → n ≡ k + 1 → Yields l size limit n
-  yields-zero s i z e = record { found = λ p. ap Found e ∙ passed-zero h s i z; none = λ y. absurd (omega arith) }

@@ -173,20 +173,17 @@ pub fn find_zero(bytes: &[u8], size: usize) -> Search
 {
     let limit = smaller(size, bytes.len());
     let mut passed = 0;
-    let length = loop {
+    let outcome = loop {
         if limit <= passed {
-            break 0;
+            if limit == size {
+                break Search::Reached(limit);
+            }
+            break Search::Ended(limit);
         }
         if bytes[passed] == 0 {
-            break passed + 1;
+            break Search::Found(passed + 1);
         }
         passed += 1;
     };
-    if 0 < length {
-        return Search::Found(length);
-    }
-    if limit == size {
-        return Search::Reached(limit);
-    }
-    Search::Ended(limit)
+    outcome
 }
