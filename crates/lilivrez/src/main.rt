@@ -3,11 +3,6 @@
 use output::print;
 use output::print_error_of;
 
-mod answer;
-mod from_gdb;
-mod output;
-mod verify;
-
 fn print_help() {
     print(
         b"lilivrez checks GDB agent expressions for the trace agent of a medical imaging unit.
@@ -48,7 +43,7 @@ fn run_command(word: &[u8]) {
         return;
     }
     if check::same(word, b"verify") {
-        verify::run();
+        command_verify::verify::run();
         return;
     }
     print_error_of(word, b"unknown command: lilivrez help lists what there is");

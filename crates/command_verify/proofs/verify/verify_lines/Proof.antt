@@ -2,8 +2,8 @@ use borrow.Author.Needs.{needs}
 use mathlib.Core.Path.{_≡_}
 use Prim.Native.Nat.{_-_, _^_}
 use lib.ListN.{length}
-use Rattle.lilivrez.proofs.verify.verify_lines.Statement.{statement}
-use Rattle.lilivrez.proofs.verify.verify_lines.Tie as tie
+use Rattle.command_verify.proofs.verify.verify_lines.Statement.{statement}
+use Rattle.command_verify.proofs.verify.verify_lines.Tie as tie
 
 abbrev Inv-loop : tie.InvT-loop
 Inv-loop is-listed input₀ text₀ line₀ number₀ input text line number = (length input ≡ 65536) × (length text ≡ 65536)

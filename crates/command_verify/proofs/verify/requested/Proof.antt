@@ -1,7 +1,7 @@
 use borrow.Author.Needs.{needs}
 use Prim.Native.Nat.{_<_, _-_, _^_}
-use Rattle.lilivrez.proofs.verify.requested.Statement.{statement}
-use Rattle.lilivrez.proofs.verify.requested.Tie as tie
+use Rattle.command_verify.proofs.verify.requested.Statement.{statement}
+use Rattle.command_verify.proofs.verify.requested.Tie as tie
 
 abbrev Inv-loop : tie.InvT-loop
 Inv-loop r₀ i₀ r i = i < 2 ^ 64

@@ -2,10 +2,10 @@
 ghost use Prim.Native.Nat.{_≤_};
 ghost use lib.ListN.{length};
 use crate::answer::answer;
-use crate::output::print;
-use crate::output::print_error_at;
 use listing::reading::Fault;
 use listing::reading::Read;
+use output::print;
+use output::print_error_at;
 use std::num::wrapping_add_u64;
 
 fn print_wrong(line: u64, column: u64, why: &[u8]) {

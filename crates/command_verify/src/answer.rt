@@ -1,7 +1,7 @@
 // The answer to one expression: the verdict in a line, and where it is asked for a listing.
 ghost use Rattle.io.specs.Counts.{Counts};
-use crate::output::print;
 use listing::writing::Written;
+use output::print;
 use report::text::append;
 use report::text::append_number;
 use report::text::append_refusal;

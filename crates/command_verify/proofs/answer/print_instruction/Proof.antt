@@ -1,7 +1,7 @@
 use native.Mathlib.Omega.{arith}
 use borrow.Author.Needs.{needs}
-use Rattle.lilivrez.proofs.answer.print_instruction.Statement.{statement}
-use Rattle.lilivrez.proofs.answer.print_instruction.Tie as tie
+use Rattle.command_verify.proofs.answer.print_instruction.Statement.{statement}
+use Rattle.command_verify.proofs.answer.print_instruction.Tie as tie
 
 slice-aggregate-write-instruction : tie.Need-slice-aggregate-write-instruction
 slice-aggregate-write-instruction c = search needs

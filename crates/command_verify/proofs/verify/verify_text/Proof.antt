@@ -1,7 +1,7 @@
 use native.Mathlib.Omega.{arith}
 use borrow.Author.Needs.{needs}
-use Rattle.lilivrez.proofs.verify.verify_text.Statement.{statement}
-use Rattle.lilivrez.proofs.verify.verify_text.Tie as tie
+use Rattle.command_verify.proofs.verify.verify_text.Statement.{statement}
+use Rattle.command_verify.proofs.verify.verify_text.Tie as tie
 
 slice-aggregate-decode : tie.Need-slice-aggregate-decode
 slice-aggregate-decode c = search needs

@@ -1,8 +1,8 @@
 use borrow.Author.Needs.{needs}
 use Prim.Native.Nat.{_≤_, _-_}
 use lib.ListN.{length}
-use Rattle.lilivrez.proofs.from_gdb.before_comment.Statement.{statement}
-use Rattle.lilivrez.proofs.from_gdb.before_comment.Tie as tie
+use Rattle.command_verify.proofs.from_gdb.before_comment.Statement.{statement}
+use Rattle.command_verify.proofs.from_gdb.before_comment.Tie as tie
 
 abbrev Inv-loop : tie.InvT-loop
 Inv-loop line n₀ n = n ≤ length line

@@ -1,8 +1,8 @@
 use borrow.Author.Needs.{needs}
 use Prim.Native.Nat.{_≤_, _-_}
 use lib.ListN.{length}
-use Rattle.lilivrez.proofs.from_gdb.print_bytes.Statement.{statement}
-use Rattle.lilivrez.proofs.from_gdb.print_bytes.Tie as tie
+use Rattle.command_verify.proofs.from_gdb.print_bytes.Statement.{statement}
+use Rattle.command_verify.proofs.from_gdb.print_bytes.Tie as tie
 
 abbrev Inv-loop : tie.InvT-loop
 Inv-loop code at₀ at = at ≤ length code

@@ -1,8 +1,8 @@
 use borrow.Author.Needs.{needs}
 use Prim.Native.Nat.{_≤_, _-_}
 use lib.ListN.{length}
-use Rattle.lilivrez.proofs.answer.print_listing.Statement.{statement}
-use Rattle.lilivrez.proofs.answer.print_listing.Tie as tie
+use Rattle.command_verify.proofs.answer.print_listing.Statement.{statement}
+use Rattle.command_verify.proofs.answer.print_listing.Tie as tie
 
 abbrev Inv-loop : tie.InvT-loop
 Inv-loop code heights is-accepted at₀ at = at ≤ 1280

@@ -1,9 +1,9 @@
 // The command `verify`: expressions in hexadecimal, or as GDB lists them.
 use crate::answer::answer;
 use crate::from_gdb;
-use crate::output::print_error;
-use crate::output::print_error_at;
-use crate::output::print_error_of;
+use output::print_error;
+use output::print_error_at;
+use output::print_error_of;
 use report::hex::Decoded;
 use std::num::wrapping_add_u64;
 

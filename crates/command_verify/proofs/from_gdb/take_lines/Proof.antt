@@ -2,8 +2,8 @@ use borrow.Author.Needs.{needs}
 use mathlib.Core.Path.{_≡_}
 use Prim.Native.Nat.{_≤_, _-_, _^_}
 use lib.ListN.{length}
-use Rattle.lilivrez.proofs.from_gdb.take_lines.Statement.{statement}
-use Rattle.lilivrez.proofs.from_gdb.take_lines.Tie as tie
+use Rattle.command_verify.proofs.from_gdb.take_lines.Statement.{statement}
+use Rattle.command_verify.proofs.from_gdb.take_lines.Tie as tie
 
 abbrev Inv-loop : tie.InvT-loop
 Inv-loop bytes₀ input₀ text₀ line₀ number₀ end₀ bytes input text line number end =

@@ -1,7 +1,7 @@
 use native.Mathlib.Omega.{arith}
 use borrow.Author.Needs.{needs}
-use Rattle.lilivrez.proofs.from_gdb.take_instruction.Statement.{statement}
-use Rattle.lilivrez.proofs.from_gdb.take_instruction.Tie as tie
+use Rattle.command_verify.proofs.from_gdb.take_instruction.Statement.{statement}
+use Rattle.command_verify.proofs.from_gdb.take_instruction.Tie as tie
 
 read-instruction-requires : tie.Need-read-instruction-requires
 read-instruction-requires c κs = search needs

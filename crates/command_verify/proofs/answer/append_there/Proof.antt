@@ -1,7 +1,7 @@
 use native.Mathlib.Omega.{arith}
 use borrow.Author.Needs.{needs}
-use Rattle.lilivrez.proofs.answer.append_there.Statement.{statement}
-use Rattle.lilivrez.proofs.answer.append_there.Tie as tie
+use Rattle.command_verify.proofs.answer.append_there.Statement.{statement}
+use Rattle.command_verify.proofs.answer.append_there.Tie as tie
 
 slice-aggregate-append : tie.Need-slice-aggregate-append
 slice-aggregate-append c = search needs
