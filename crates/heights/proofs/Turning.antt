@@ -8,13 +8,12 @@ use native.Mathlib.Omega.{arith}
 use native.Mathlib.Decide.{ℕ-discrete}
 use lib.ListN.{getD, length, set, replicate, length-set, length-replicate, getD-replicate}
 use lib.Seq.{getD-set-same, getD-set-other}
-use Rattle.encoding.proofs.Promises.{cases}
 use Rattle.isa.specs.Decode.{next, heightAfter}
 use Rattle.isa.specs.Rows.{IsRow}
 use Rattle.isa.specs.declared.Row.{Row}
 use Rattle.isa.specs.Starts.{isStart}
 use Rattle.isa.specs.Walk.{After, Walk, stop, step}
-use Rattle.isa.proofs.Promises.{start-zero, start-in, start-next, start-apart, walk-last}
+use Rattle.isa.proofs.Promises.{start-zero, start-in, start-next, before-next, walk-last}
 use Rattle.verifier.specs.Acceptance.{Acceptable, Accepted, Ready}
 use Rattle.verifier.proofs.Promises.{accepted-means, fitting-accepted, begins, ready, goes-on, goes-forward}
 use Rattle.heights.specs.Arrivals.{unreached, Arrivals}
@@ -67,11 +66,6 @@ filling-start {e} a =
           ];
       told = λ k h. absurd (omega arith);
     }
-
--- what holds of the starts before the start i, and of i, holds of those before the next
-before-next : (e : List ℕ) (P : ℕ → Type 0) (i : ℕ) → isStart e i ≡ true → ((k : ℕ) → k < i → isStart e k ≡ true → P k) → P i
-    → (k : ℕ) → k < next e i → isStart e k ≡ true → P k
-before-next e P i s b p k h t = cases k i (λ q. b k q t) (λ q. let z : i ≡ k = omega (arith, start-apart e i k s t h) in rw z at p)
 
 module _ {e : List ℕ} {i : ℕ} {hs : List ℕ} (f : Filling e i hs) where
   -- what is known of a start whose cell is not 255
