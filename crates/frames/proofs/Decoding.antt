@@ -74,7 +74,7 @@ module _ (l : List ℕ) where
   variable-facts m t = record { mark = eqb→eq (getD l 0 0) 0x56 m; low = variable-fits t .0; fits = variable-fits t .1 }
 
   -- a property of what is decoded, from the three ways to it
-  by-decode : (P : Decoded → Type 0)
+  pub by-decode : (P : Decoded → Type 0)
       → (FoundMemory l (field l 9 2) → P (found (memory (field l 1 8) (take (field l 9 2) (drop 11 l)))))
       → (FoundVariable l → P (found (variable (field l 1 4) (field l 5 8))))
       → P broken

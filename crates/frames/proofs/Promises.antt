@@ -10,7 +10,7 @@ use Rattle.frames.specs.Record.{Record, encode, encodeAll, size, WellFor
 use Rattle.frames.specs.Division.{Division, records, brokenAt, after, afterAll, divideAtMost, divide}
 use Rattle.frames.specs.Trailer.{trailerSize, encodeTrailer, trailer, decodeTrailer}
 use Rattle.frames.specs.Frame.{encodeFrame}
-use Rattle.frames.specs.Reading.{itemOf, itemSize}
+use Rattle.frames.specs.Reading.{sizeOf}
 use Rattle.frames.specs.Writing.{written, encodable, Leaves, Whole}
 use Rattle.frames.specs.Example.{exampleFrame, exampleRecords}
 use Rattle.frames.specs.declared.Written.{Written}
@@ -128,10 +128,10 @@ module _ (l : List ℕ) (u : ℕ) (rs : List Record) where
       → writtenAt (writtenAt l u (encodeAll rs)) (u + length (encodeAll rs)) (encodeTrailer t (length (encodeAll rs))) ≡ writtenAt l u (encodeFrame t rs)
   trailer-behind = fitting.trailer-behind l u rs
 
--- ---- the readers' answers
--- a record is found, and the item has its size; or none is, and the size is 0
-pub by-item : {X : Type 0} (d : Decoded) → (d ≡ broken → itemSize (itemOf d) ≡ 0 → X) → ((r : Record) → d ≡ found r → itemSize (itemOf d) ≡ size r → X) → X
-by-item = reading.by-item
+-- ---- the size of a record
+-- a record is found, and the number is its size; or none is, and the number is 0
+pub by-size : {X : Type 0} (d : Decoded) → (d ≡ broken → sizeOf d ≡ 0 → X) → ((r : Record) → d ≡ found r → sizeOf d ≡ size r → X) → X
+by-size = reading.by-size
 
 -- ---- document 01's frame, written and read
 pub example-written : encodeFrame 7 exampleRecords ≡ exampleFrame

@@ -2,15 +2,21 @@
 pub mod trailer;
 
 ghost use mathlib.Core.Path.{_≡_};
+ghost use Prim.Native.Nat.{_<_};
 ghost use Rattle.frames.specs.Record.{memory, variable, decodeMemory, decodeVariable, decode};
 ghost use Rattle.frames.specs.Writing.{writtenRecord, Leaves};
-ghost use Rattle.frames.specs.Reading.{itemOf, itemSize};
+ghost use Rattle.frames.specs.Reading.{sizeOf, Tells};
 
 // How many bytes a writer has written; or none, for want of room.
 pub enum Written {
     Bytes(usize),
     Full,
 }
+
+// The bytes of a memory record before those recorded.
+pub const MEMORY_HEADER: usize = 11;
+
+const VARIABLE_SIZE: usize = 13;
 
 // A writer receives the free part of the buffer. It writes at its front, whole or not at all.
 pub fn write_memory(free: &mut [u8], address: u64, bytes: &[u8]) -> Written
@@ -20,26 +26,26 @@ pub fn write_memory(free: &mut [u8], address: u64, bytes: &[u8]) -> Written
     if 65535 < count {
         return Written::Full;
     }
-    if free.len() < 11 + count {
+    if free.len() < MEMORY_HEADER + count {
         return Written::Full;
     }
     free[0] = 0x4d;
     encoding::put_little(free, 1, address, 8);
     encoding::put_little(free, 9, count as u64, 2);
-    encoding::put_bytes(free, 11, bytes);
-    Written::Bytes(11 + count)
+    encoding::put_bytes(free, MEMORY_HEADER, bytes);
+    Written::Bytes(MEMORY_HEADER + count)
 }
 
 pub fn write_variable(free: &mut [u8], number: u32, value: u64) -> Written
     ensures { λ r. ⌜ Leaves (writtenRecord (now (free .entry)) 0 (variable number value)) r (now (free .exit)) ⌝ }
 {
-    if free.len() < 13 {
+    if free.len() < VARIABLE_SIZE {
         return Written::Full;
     }
     free[0] = 0x56;
     encoding::put_little(free, 1, number as u64, 4);
     encoding::put_little(free, 5, value, 8);
-    Written::Bytes(13)
+    Written::Bytes(VARIABLE_SIZE)
 }
 
 // The same for a whole buffer of which `used` bytes are taken: its free part is lent to the writer.
@@ -61,11 +67,10 @@ pub fn append_variable(buffer: &mut [u8], used: usize, number: u32, value: u64) 
     write_variable(&mut buffer[used..], number, value)
 }
 
-// The record at the front of some bytes. Memory: address, length. Variable: number, value.
+// A record. Memory: address, length. Variable: number, value.
 pub enum Item {
     Memory(u64, usize),
     Variable(u64, u64),
-    NoRecord,
 }
 
 // The trailer at the end of a frame: tracepoint number, length of the records.
@@ -74,63 +79,63 @@ pub enum Ending {
     NoTrailer,
 }
 
-// The bytes of a memory record before those recorded.
-pub const MEMORY_HEADER: usize = 11;
-
-fn read_memory(bytes: &[u8]) -> Item
-    ensures { λ r. ⌜ r ≡ itemOf (decodeMemory (now (bytes .entry))) ⌝ }
+fn memory_size(bytes: &[u8]) -> usize
+    ensures { λ r. ⌜ r ≡ sizeOf (decodeMemory (now (bytes .entry))) ⌝ }
 {
-    if bytes.len() < 11 {
-        return Item::NoRecord;
+    if bytes.len() < MEMORY_HEADER {
+        return 0;
     }
     let count = encoding::little_endian(&bytes[9..11]) as usize;
     if count == 0 {
-        return Item::NoRecord;
+        return 0;
     }
-    if bytes.len() - 11 < count {
-        return Item::NoRecord;
+    if bytes.len() - MEMORY_HEADER < count {
+        return 0;
     }
-    let address = encoding::little_endian(&bytes[1..9]);
-    Item::Memory(address, count)
+    MEMORY_HEADER + count
 }
 
-fn read_variable(bytes: &[u8]) -> Item
-    ensures { λ r. ⌜ r ≡ itemOf (decodeVariable (now (bytes .entry))) ⌝ }
+fn variable_size(bytes: &[u8]) -> usize
+    ensures { λ r. ⌜ r ≡ sizeOf (decodeVariable (now (bytes .entry))) ⌝ }
 {
-    if bytes.len() < 13 {
-        return Item::NoRecord;
+    if bytes.len() < VARIABLE_SIZE {
+        return 0;
     }
     let number = encoding::little_endian(&bytes[1..5]);
     if number >= 64 {
-        return Item::NoRecord;
+        return 0;
     }
-    let value = encoding::little_endian(&bytes[5..13]);
-    Item::Variable(number, value)
-}
-
-pub fn read_record(bytes: &[u8]) -> Item
-    ensures { λ r. ⌜ r ≡ itemOf (decode (now (bytes .entry))) ⌝ }
-{
-    if bytes.len() == 0 {
-        return Item::NoRecord;
-    }
-    let mark = bytes[0];
-    if mark == 0x4d {
-        return read_memory(bytes);
-    }
-    if mark == 0x56 {
-        return read_variable(bytes);
-    }
-    Item::NoRecord
+    VARIABLE_SIZE
 }
 
 // The number of bytes of the record at the front; 0 where there is none.
 pub fn record_size(bytes: &[u8]) -> usize
-    ensures { λ r. ⌜ r ≡ itemSize (itemOf (decode (now (bytes .entry)))) ⌝ }
+    ensures { λ r. ⌜ r ≡ sizeOf (decode (now (bytes .entry))) ⌝ }
 {
-    match read_record(bytes) {
-        Item::Memory(address, length) => 11 + length,
-        Item::Variable(number, value) => 13,
-        Item::NoRecord => 0,
+    if bytes.len() == 0 {
+        return 0;
     }
+    let mark = bytes[0];
+    if mark == 0x4d {
+        return memory_size(bytes);
+    }
+    if mark == 0x56 {
+        return variable_size(bytes);
+    }
+    0
+}
+
+// The record at the front, where there is one: nothing that `record_size` has tested is tested again. A number below 64 is its first byte.
+pub fn read_record(bytes: &[u8]) -> Item
+    requires { ⌜ 0 < sizeOf (decode (now bytes)) ⌝ }
+    ensures { λ r. ⌜ Tells r (decode (now (bytes .entry))) ⌝ }
+{
+    if bytes[0] == 0x4d {
+        let address = encoding::little_endian(&bytes[1..9]);
+        let count = encoding::little_endian(&bytes[9..11]) as usize;
+        return Item::Memory(address, count);
+    }
+    let number = encoding::wide(bytes[1]);
+    let value = encoding::little_endian(&bytes[5..13]);
+    Item::Variable(number, value)
 }

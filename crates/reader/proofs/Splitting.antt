@@ -1,20 +1,19 @@
 -- The division of a frame into records, as the code goes through it.
 use mathlib.Core.List.{List, [], _∷_, _++_}
 use mathlib.Core.Path.{_≡_, refl, ap, sym, _∙_}
-use Prim.Native.Nat.{ℕ, zero, suc, _+_, _-_, _≤_, _<_}
+use Prim.Native.Nat.{ℕ, zero, suc, _+_, _≤_, _<_}
 use native.Mathlib.Nat.{zero-add, add-zero, add-assoc, not-suc-le-zero}
 use native.Mathlib.Omega.{arith}
 use lib.ListN.{length, drop, length-append, length-drop, drop-of-length-le}
 use lib.Seq.{drop-drop}
-use Rattle.frames.specs.Record.{Record, memory, variable, size, encode, encodeAll, Decoded, found, broken, decode}
+use Rattle.frames.specs.Record.{Record, memory, variable, size, encode, encodeAll, found, decode}
 use Rattle.frames.specs.Division.{Division, records, brokenAt, after, afterAll, divide}
-use Rattle.frames.specs.Reading.{itemOf, itemSize}
-use Rattle.frames.proofs.Promises.{length-encode, found-fits, encode-all-more, divide-nothing, divide-found, divide-broken, after-all-nothing, after-all-more, after-all-broken, divided-first, by-item}
+use Rattle.frames.specs.Reading.{sizeOf, itemOf, Tells}
+use Rattle.frames.proofs.Promises.{length-encode, found-fits, encode-all-more, divide-nothing, divide-found, divide-broken, after-all-nothing, after-all-more, after-all-broken, divided-first, by-size}
 use Rattle.frames.specs.declared.Item.{Item}
-use Rattle.frames.specs.declared.Item.the-variants.{Memory, Variable, NoRecord}
-use Rattle.reader.specs.Read.{Read, memoryRead, variableRead, refusedRead, told, recordRead, readDivided, counted, countDivided}
+use Rattle.frames.specs.declared.Item.the-variants.{Memory, Variable}
+use Rattle.reader.specs.Read.{memoryRead, variableRead, refusedRead, told, recordRead, readDivided, counted, countDivided}
 use Rattle.reader.specs.Answers.{offsetIn, splitOf}
-use Rattle.reader.specs.declared.Split.{Split}
 use Rattle.reader.specs.declared.Split.the-variants.{Whole, BrokenAt}
 
 -- ---- the offset of a record, with one more record behind
@@ -50,10 +49,10 @@ module _ {l : List ℕ} {wanted at count seen : ℕ} (w : Through l wanted at co
       w .same ∙ ap (λ t. afterAll (w .passed) (divide t)) (drop-of-length-le l {i = at} h) ∙ ap (afterAll (w .passed)) divide-nothing ∙ after-all-nothing (w .passed) in
       rw (all, w .counts, w .offset)
 
-  module _ (h : at < length l) {n : ℕ} (e : n ≡ itemSize (itemOf (decode (drop at l)))) where
+  module _ (h : at < length l) {n : ℕ} (e : n ≡ sizeOf (decode (drop at l))) where
     pub through-broken : n ≡ 0 → BrokenAt at ≡ splitOf wanted (divide l)
     through-broken z =
-        by-item (decode (drop at l))
+        by-size (decode (drop at l))
         (λ b s. let all : divide l ≡ brokenAt (length (encodeAll (w .passed)) + 0) =
         w .same ∙ ap (afterAll (w .passed)) (divide-broken (drop at l) (omega (arith, length-drop at l)) b) ∙ after-all-broken (w .passed) 0 in
         rw (all, add-zero, ← (w .place)))
@@ -61,7 +60,7 @@ module _ {l : List ℕ} {wanted at count seen : ℕ} (w : Through l wanted at co
 
     pub through-fits : at + n ≤ length l
     through-fits =
-        by-item (decode (drop at l)) (λ b s. omega arith) (λ r f s. omega (arith, found-fits (drop at l) f, s, length-drop at l))
+        by-size (decode (drop at l)) (λ b s. omega arith) (λ r f s. omega (arith, found-fits (drop at l) f, s, length-drop at l))
 
     Noted : ℕ → Type 0
     Noted x = (r : Record) → x ≡ offsetIn 0 wanted (w .passed ++ (r ∷ []))
@@ -80,7 +79,7 @@ module _ {l : List ℕ} {wanted at count seen : ℕ} (w : Through l wanted at co
     }
 
     more-by : (n ≡ 0 → ⊥) → {x : ℕ} → Noted x → Through l wanted (at + n) (count + 1) x
-    more-by z q = by-item (decode (drop at l)) (λ b s. absurd (z (e ∙ s))) (λ r f s. more q r f (e ∙ s))
+    more-by z q = by-size (decode (drop at l)) (λ b s. absurd (z (e ∙ s))) (λ r f s. more q r f (e ∙ s))
 
     -- the offset is noted at the record wanted, and kept at any other
     pub through-here : (n ≡ 0 → ⊥) → count ≡ wanted → {x : ℕ} → x ≡ at → Through l wanted (at + n) (count + 1) x
@@ -136,6 +135,7 @@ module _ (l : List ℕ) (i : ℕ) {n o : ℕ} (e : Whole n o ≡ splitOf i (divi
     pub which : Record
     pub there : decode (drop o l) ≡ found which
     pub inside : o + size which ≤ length l
+    pub some : 0 < sizeOf (decode (drop o l))
     pub tells : (t s : ℕ) → told t (s + o) which ≡ readDivided t s i (divide l)
 
   pub one-read : i < n → Chosen
@@ -147,42 +147,36 @@ module _ (l : List ℕ) (i : ℕ) {n o : ℕ} (e : Whole n o ≡ splitOf i (divi
         which = c .which;
         there = there;
         inside = omega (arith, found-fits (drop o l) there, length-drop o l);
+        some = rw there (found-fits (drop o l) there .0);
         tells = λ t s. ap (λ k. told t (s + k) (c .which)) (w .3) ∙ sym (c .tells t s) ∙ ap (λ k. recordRead t s k i (w .0)) (add-zero s) ∙ ap (readDivided t s i) (sym (w .1));
       }
 
 -- ---- what the item says of the record
-told-memory : (t o : ℕ) (r : Record) {a n : ℕ} → Memory a n ≡ itemOf (found r) → memoryRead t a n (o + 11) ≡ told t o r
+told-memory : (t o : ℕ) (r : Record) {a n : ℕ} → Memory a n ≡ itemOf r → memoryRead t a n (o + 11) ≡ told t o r
 told-memory t o (memory a bytes) e = let p : _ ≡ _ = e in cc
 told-memory t o (variable k x) e = absurd (let z : _≡_ {A = ℕ} 0 1 = cc in omega arith)
 
-told-variable : (t o : ℕ) (r : Record) {k x : ℕ} → Variable k x ≡ itemOf (found r) → variableRead t k x ≡ told t o r
+told-variable : (t o : ℕ) (r : Record) {k x : ℕ} → Variable k x ≡ itemOf r → variableRead t k x ≡ told t o r
 told-variable t o (memory a bytes) e = absurd (let z : _≡_ {A = ℕ} 0 1 = cc in omega arith)
 told-variable t o (variable k x) e = cc
 
-told-none : {X : Type 0} (r : Record) → NoRecord ≡ itemOf (found r) → X
-told-none (memory a bytes) e = absurd (let z : _≡_ {A = ℕ} 0 1 = cc in omega arith)
-told-none (variable k x) e = absurd (let z : _≡_ {A = ℕ} 0 1 = cc in omega arith)
-
-memory-long : (r : Record) {a n : ℕ} → Memory a n ≡ itemOf (found r) → 11 ≤ size r
+memory-long : (r : Record) {a n : ℕ} → Memory a n ≡ itemOf r → 11 ≤ size r
 memory-long (memory a bytes) e = omega arith
 memory-long (variable k x) e = omega arith
 
-module _ (l : List ℕ) (i : ℕ) {n o : ℕ} (e : Whole n o ≡ splitOf i (divide l)) (h : i < n) {x : Item} (y : x ≡ itemOf (decode (drop o l))) where
+module _ (l : List ℕ) (i : ℕ) {n o : ℕ} (e : Whole n o ≡ splitOf i (divide l)) (h : i < n) {x : Item} (y : Tells x (decode (drop o l))) where
   pub memory-read : {a k : ℕ} → x ≡ Memory a k → (t s : ℕ) → memoryRead t a k (s + o + 11) ≡ readDivided t s i (divide l)
   memory-read q t s =
       let c = one-read l i e h in
-      told-memory t (s + o) (c .which) (sym q ∙ y ∙ ap itemOf (c .there)) ∙ c .tells t s
+      told-memory t (s + o) (c .which) (sym q ∙ rw (c .there) at y) ∙ c .tells t s
 
   pub variable-read : {k v : ℕ} → x ≡ Variable k v → (t s : ℕ) → variableRead t k v ≡ readDivided t s i (divide l)
   variable-read q t s =
       let c = one-read l i e h in
-      told-variable t (s + o) (c .which) (sym q ∙ y ∙ ap itemOf (c .there)) ∙ c .tells t s
-
-  pub never-broken : {X : Type 0} → x ≡ NoRecord → X
-  never-broken q = let c = one-read l i e h in told-none (c .which) (sym q ∙ y ∙ ap itemOf (c .there))
+      told-variable t (s + o) (c .which) (sym q ∙ rw (c .there) at y) ∙ c .tells t s
 
   -- the header of a memory record is there
   pub header-inside : {a k : ℕ} → x ≡ Memory a k → o + 11 ≤ length l
   header-inside q =
       let c = one-read l i e h in
-      omega (arith, c .inside, memory-long (c .which) (sym q ∙ y ∙ ap itemOf (c .there)))
+      omega (arith, c .inside, memory-long (c .which) (sym q ∙ rw (c .there) at y))

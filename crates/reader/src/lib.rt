@@ -4,7 +4,7 @@ ghost use Prim.Native.Nat.{_+_, _≤_};
 ghost use lib.ListN.{length};
 ghost use Rattle.frames.specs.Division.{divide as division};
 ghost use Rattle.reader.specs.Located.{unfit, frameBefore, located, walked};
-ghost use Rattle.reader.specs.Read.{reading, counting, readDivided, countDivided};
+ghost use Rattle.reader.specs.Read.{reading, counting, readDivided};
 ghost use Rattle.reader.specs.Answers.{locatedOf, readOf, countedOf, splitOf};
 use frames::Ending;
 use frames::Item;
@@ -142,7 +142,6 @@ fn read_in(bytes: &[u8], tracepoint: u16, start: usize, index: u64) -> Reading
                     start + found + frames::MEMORY_HEADER,
                 ),
                 Item::Variable(number, value) => Reading::Variable(tracepoint, number, value),
-                Item::NoRecord => Reading::NoReading(25, start),
             }
         }
     }

@@ -1,53 +1,46 @@
-use mathlib.Core.Path.{_≡_, ap, sym, _∙_}
-use native.Mathlib.Omega.{arith}
 use denote.Ref.{now}
-use Rattle.frames.specs.Record.{decode}
-use Rattle.frames.specs.Reading.{itemOf, itemSize}
-use Rattle.frames.proofs.Decoding.{in-front}
-use Rattle.frames.proofs.Reading.{item-fits}
+use mathlib.Core.Path.{ap, sym, _∙_}
+use native.Mathlib.Omega.{arith}
+use lib.ListN.{List·getD-eq-default}
+use Rattle.frames.specs.Reading.{sizeOf}
+use Rattle.frames.proofs.Reading.{memory-mark, variable-mark, other-mark}
 use borrow.Author.Needs.{needs}
 use Rattle.frames.proofs.record_size.Statement.{statement}
 use Rattle.frames.proofs.record_size.Tie as tie
 use Rattle.frames.proofs.record_size.Reads as reads
 use Rattle.frames.proofs.record_size.Lts as lts
-use Rattle.frames.proofs.read_record.Reads as read-record-reads
-
-read-record-requires : tie.Need-read-record-requires
-read-record-requires c κs = search needs
-
-enum-known-address : tie.Need-enum-known-address
-enum-known-address c = search needs
-
-add-result : tie.Need-add-result
-add-result c =
-    let l = now (c .before .before .before .before .before .args .bytes) in
-    let e : itemSize (itemOf (decode l)) ≡ _ = ap itemSize (sym (c .before .before .before .read-record .ensures) ∙ c .before .address .given .1) in
-    record { fits = omega (arith, item-fits l (decode l) (in-front l), e) }
-
-enum-known-number : tie.Need-enum-known-number
-enum-known-number c = search needs
-
-enum-told : tie.Need-enum-told
-enum-told c = search needs
+use Rattle.frames.proofs.memory_size.Reads as memory-size-reads
+use Rattle.frames.proofs.variable_size.Reads as variable-size-reads
 
 returns : tie.Need-returns
-returns c = ap itemSize (sym (c .before .address .given .1) ∙ c .before .before .before .read-record .ensures)
+returns c = let d = List·getD-eq-default (now (c .before .before .args .bytes)) 0 {n = 0} (omega arith) in other-mark _ (λ e. omega arith) (λ e. omega arith)
+
+shared-slice-read-mark : tie.Need-shared-slice-read-mark
+shared-slice-read-mark c = search needs
+
+memory-size-requires : tie.Need-memory-size-requires
+memory-size-requires c κs = search needs
 
 returns-2 : tie.Need-returns-2
-returns-2 c = ap itemSize (sym (c .before .number .given .1) ∙ c .before .before .before .read-record .ensures)
+returns-2 c = c .memory-size .ensures ∙ sym (ap sizeOf (memory-mark _ (omega arith)))
+
+variable-size-requires : tie.Need-variable-size-requires
+variable-size-requires c κs = search needs
 
 returns-3 : tie.Need-returns-3
-returns-3 c = ap itemSize (sym (c .enum-told .given .1) ∙ c .before .before .read-record .ensures)
+returns-3 c = c .variable-size .ensures ∙ sym (ap sizeOf (variable-mark _ (omega arith)))
+
+returns-4 : tie.Need-returns-4
+returns-4 c = other-mark _ (λ e. omega arith) (λ e. omega arith)
 
 pub record-size-spec : {M : Type 1} → statement M
 record-size-spec =
     tie.close
     (tie.spec
-    read-record-requires
-    enum-known-address
-    add-result
-    enum-known-number
-    enum-told
     returns
+    shared-slice-read-mark
+    memory-size-requires
     returns-2
-    returns-3)
+    variable-size-requires
+    returns-3
+    returns-4)

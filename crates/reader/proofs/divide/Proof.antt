@@ -4,7 +4,7 @@ use mathlib.Core.Path.{_≡_, ap, _∙_}
 use lib.ListN.{drop}
 use Rattle.encoding.proofs.Promises.{part-lent}
 use Rattle.frames.specs.Record.{decode}
-use Rattle.frames.specs.Reading.{itemOf, itemSize}
+use Rattle.frames.specs.Reading.{sizeOf}
 use Prim.Native.Nat.{_-_}
 use native.Mathlib.Omega.{arith}
 use lib.ListN.{length}
@@ -24,8 +24,8 @@ abbrev μ-loop : tie.MeasureT-loop
 
 -- the size of the record at `at`: the part that is lent is all the rest
 sized : (c : lts.After-record-size (record-size-reads.Asked, record-size-reads.Learnt) reads.Pre reads.Post Inv-loop μ-loop)
-    → c .record-size .result ≡ itemSize (itemOf (decode (drop (c .before .before .before .loop .at) (now (c .before .before .before .before .before .args .bytes)))))
-sized c = c .record-size .ensures ∙ ap (λ t. itemSize (itemOf (decode t))) (part-lent (now (c .before .before .before .before .before .args .bytes)) (c .before .before .before .loop .at))
+    → c .record-size .result ≡ sizeOf (decode (drop (c .before .before .before .loop .at) (now (c .before .before .before .before .before .args .bytes))))
+sized c = c .record-size .ensures ∙ ap (λ t. sizeOf (decode t)) (part-lent (now (c .before .before .before .before .before .args .bytes)) (c .before .before .before .loop .at))
 
 loop-holds : tie.Need-loop-holds Inv-loop μ-loop
 loop-holds c = through-begins _ _

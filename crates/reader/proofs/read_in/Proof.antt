@@ -5,12 +5,12 @@ use denote.Ref.{now}
 use Rattle.encoding.proofs.Promises.{part-lent}
 use Rattle.frames.specs.Record.{decode}
 use Rattle.frames.specs.Division.{brokenAt, divide}
-use Rattle.frames.specs.Reading.{itemOf}
+use Rattle.frames.specs.Reading.{Tells}
 use Rattle.frames.proofs.Promises.{broken-inside}
 use Rattle.reader.specs.Read.{readDivided}
 use Rattle.reader.specs.Answers.{splitOf}
 use Rattle.reader.specs.declared.Split.the-variants.{Whole}
-use Rattle.reader.proofs.Splitting.{split-broken, none-read, one-read, memory-read, variable-read, never-broken, header-inside}
+use Rattle.reader.proofs.Splitting.{split-broken, none-read, one-read, memory-read, variable-read, header-inside}
 use borrow.Author.Needs.{needs}
 use Rattle.reader.proofs.read_in.Statement.{statement}
 use Rattle.reader.proofs.read_in.Tie as tie
@@ -30,10 +30,10 @@ whole c = sym (c .before .count .given .1) ∙ c .before .before .before .divide
 
 -- the record that is read: the part that is lent is all from its offset on
 item : (c : tie.After-read-record)
-    → c .read-record .result ≡ itemOf (decode (drop (c .before .before .before .before .count .given .0 .1 .0) (now (c .before .before .before .before .before .before .before .before .args .bytes))))
+    → Tells (c .read-record .result) (decode (drop (c .before .before .before .before .count .given .0 .1 .0) (now (c .before .before .before .before .before .before .before .before .args .bytes))))
 item c =
-    c .read-record .ensures
-    ∙ ap (λ t. itemOf (decode t)) (part-lent (now (c .before .before .before .before .before .before .before .before .args .bytes)) (c .before .before .before .before .count .given .0 .1 .0))
+    rw (part-lent (now (c .before .before .before .before .before .before .before .before .args .bytes)) (c .before .before .before .before .count .given .0 .1 .0))
+    at (c .read-record .ensures)
 
 divide-requires : tie.Need-divide-requires
 divide-requires c κs = search needs
@@ -60,7 +60,10 @@ part-read-record-end : tie.Need-part-read-record-end
 part-read-record-end c = search needs
 
 read-record-requires : tie.Need-read-record-requires
-read-record-requires c κs = search needs
+read-record-requires c κs =
+    let w = whole (c .before .before) in
+    let l = now (c .before .before .before .before .before .before .before .args .bytes) in
+    rw (part-lent l (c .before .before .before .count .given .0 .1 .0)) (one-read l _ w (omega arith) .some)
 
 enum-known-address : tie.Need-enum-known-address
 enum-known-address c = search needs
@@ -74,9 +77,6 @@ add-t24 c = record { fits = omega (arith, c .before .before .before .before .bef
 enum-known-number : tie.Need-enum-known-number
 enum-known-number c = search needs
 
-enum-told : tie.Need-enum-told
-enum-told c = search needs
-
 returns-2 : tie.Need-returns-2
 returns-2 c = ap (readDivided _ _ _) (sym (cut c))
 
@@ -85,9 +85,6 @@ returns-3 c = memory-read _ _ (whole (c .before .before .before .before .before 
 
 returns-4 : tie.Need-returns-4
 returns-4 c = variable-read _ _ (whole (c .before .before .before .before .before .before)) (omega arith) (item (c .before .before .before)) (c .before .number .given .1) _ _
-
-returns-5 : tie.Need-returns-5
-returns-5 c = never-broken _ _ (whole (c .before .before .before .before .before)) (omega arith) (item (c .before .before)) (c .enum-told .given .1)
 
 pub read-in-spec : {M : Type 1} → statement M
 read-in-spec =
@@ -106,8 +103,6 @@ read-in-spec =
     add-t23
     add-t24
     enum-known-number
-    enum-told
     returns-2
     returns-3
-    returns-4
-    returns-5)
+    returns-4)

@@ -4,10 +4,10 @@ use denote.Ref.{now}
 use Rattle.frames.specs.Record.{field}
 use Rattle.frames.proofs.Reading.{no-variable, a-variable}
 use borrow.Author.Needs.{needs}
-use Rattle.frames.proofs.read_variable.Statement.{statement}
-use Rattle.frames.proofs.read_variable.Tie as tie
-use Rattle.frames.proofs.read_variable.Reads as reads
-use Rattle.frames.proofs.read_variable.Lts as lts
+use Rattle.frames.proofs.variable_size.Statement.{statement}
+use Rattle.frames.proofs.variable_size.Tie as tie
+use Rattle.frames.proofs.variable_size.Reads as reads
+use Rattle.frames.proofs.variable_size.Lts as lts
 use Rattle.encoding.proofs.little_endian.Reads as little-endian-reads
 
 returns : tie.Need-returns
@@ -28,28 +28,15 @@ little-endian-requires c κs = search needs
 returns-2 : tie.Need-returns-2
 returns-2 c = no-variable _ (λ s h. omega (arith, c .before .little-endian .ensures .0))
 
-sub-little-endian-2 : tie.Need-sub-little-endian-2
-sub-little-endian-2 c = search needs
-
-part-little-endian-start-2 : tie.Need-part-little-endian-start-2
-part-little-endian-start-2 c = search needs
-
-part-little-endian-end-2 : tie.Need-part-little-endian-end-2
-part-little-endian-end-2 c = search needs
-
-little-endian-requires-2 : tie.Need-little-endian-requires-2
-little-endian-requires-2 c κs = search needs
-
 returns-3 : tie.Need-returns-3
 returns-3 c =
-    let p = c .before .before .before in
+    let p = c .before in
     let l = now (p .before .before .before .before .args .bytes) in
     let number : p .little-endian .result ≡ field l 1 4 = p .little-endian .ensures .0 in
-    let value : c .little-endian2 .result ≡ field l 5 8 = c .little-endian2 .ensures .0 in
-    rw (number, value) (a-variable l (omega arith) (omega arith))
+    a-variable l (omega arith) (omega arith)
 
-pub read-variable-spec : {M : Type 1} → statement M
-read-variable-spec =
+pub variable-size-spec : {M : Type 1} → statement M
+variable-size-spec =
     tie.close
     (tie.spec
     returns
@@ -58,8 +45,4 @@ read-variable-spec =
     part-little-endian-end
     little-endian-requires
     returns-2
-    sub-little-endian-2
-    part-little-endian-start-2
-    part-little-endian-end-2
-    little-endian-requires-2
     returns-3)

@@ -4,10 +4,10 @@ use denote.Ref.{now}
 use Rattle.frames.specs.Record.{field}
 use Rattle.frames.proofs.Reading.{no-memory, a-memory}
 use borrow.Author.Needs.{needs}
-use Rattle.frames.proofs.read_memory.Statement.{statement}
-use Rattle.frames.proofs.read_memory.Tie as tie
-use Rattle.frames.proofs.read_memory.Reads as reads
-use Rattle.frames.proofs.read_memory.Lts as lts
+use Rattle.frames.proofs.memory_size.Statement.{statement}
+use Rattle.frames.proofs.memory_size.Tie as tie
+use Rattle.frames.proofs.memory_size.Reads as reads
+use Rattle.frames.proofs.memory_size.Lts as lts
 use Rattle.encoding.proofs.little_endian.Reads as little-endian-reads
 
 returns : tie.Need-returns
@@ -34,28 +34,18 @@ sub-if3 c = search needs
 returns-3 : tie.Need-returns-3
 returns-3 c = no-memory _ (λ s h. omega (arith, c .before .before .little-endian .ensures .0))
 
-sub-little-endian-2 : tie.Need-sub-little-endian-2
-sub-little-endian-2 c = search needs
-
-part-little-endian-start-2 : tie.Need-part-little-endian-start-2
-part-little-endian-start-2 c = search needs
-
-part-little-endian-end-2 : tie.Need-part-little-endian-end-2
-part-little-endian-end-2 c = search needs
-
-little-endian-requires-2 : tie.Need-little-endian-requires-2
-little-endian-requires-2 c κs = search needs
+add-result : tie.Need-add-result
+add-result c = record { fits = omega arith }
 
 returns-4 : tie.Need-returns-4
 returns-4 c =
-    let p = c .before .before .before .before in
+    let p = c .before .before in
     let l = now (p .before .before .before .before .args .bytes) in
     let count : p .little-endian .result ≡ field l 9 2 = p .little-endian .ensures .0 in
-    let address : c .little-endian2 .result ≡ field l 1 8 = c .little-endian2 .ensures .0 in
-    rw (count, address) (a-memory l (omega arith) (omega arith))
+    rw count (a-memory l (omega arith) (omega arith))
 
-pub read-memory-spec : {M : Type 1} → statement M
-read-memory-spec =
+pub memory-size-spec : {M : Type 1} → statement M
+memory-size-spec =
     tie.close
     (tie.spec
     returns
@@ -66,8 +56,5 @@ read-memory-spec =
     returns-2
     sub-if3
     returns-3
-    sub-little-endian-2
-    part-little-endian-start-2
-    part-little-endian-end-2
-    little-endian-requires-2
+    add-result
     returns-4)
