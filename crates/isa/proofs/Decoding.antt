@@ -3,7 +3,7 @@ use mathlib.Core.Bool.{cond}
 use mathlib.Core.List.{List}
 use mathlib.Core.Path.{_≡_, ap}
 use mathlib.Core.Logic.{_≢_}
-use Prim.Native.Nat.{ℕ, _+_, _-_, _<_}
+use Prim.Native.Nat.{ℕ, _+_, _-_}
 use native.Mathlib.Omega.{arith}
 use lib.ListN.{getD}
 use lib.Dec.{eqb}
@@ -27,13 +27,13 @@ module _ (e : List ℕ) (k : ℕ) where
   needed-by n p a b = cc
 
   -- with no N on top of the row
-  pub needed-row : (n : ℕ) → n ≡ getD (row (classOf (getD e k 0))) 1 0 → kindAt e k < kind-pick → n ≡ needed e k
+  pub needed-row : (n : ℕ) → n ≡ getD (row (classOf (getD e k 0))) 1 0 → kindAt e k ≢ kind-pick → n ≡ needed e k
   unfolding needed
-  needed-row n a h = omega (arith, picked-none (omega arith))
+  needed-row n a h = omega (arith, picked-none h)
 
-  pub left-row : (n : ℕ) → n ≡ getD (row (classOf (getD e k 0))) 2 0 → kindAt e k < kind-pick → n ≡ left e k
+  pub left-row : (n : ℕ) → n ≡ getD (row (classOf (getD e k 0))) 2 0 → kindAt e k ≢ kind-pick → n ≡ left e k
   unfolding left
-  left-row n a h = omega (arith, picked-none (omega arith))
+  left-row n a h = omega (arith, picked-none h)
 
   pub after-by : (h n m : ℕ) → n ≡ needed e k → m ≡ left e k → h - n + m ≡ heightAfter e k h
   unfolding heightAfter

@@ -3,11 +3,11 @@
 use mathlib.Core.Bool.{true, false, cond}
 use mathlib.Core.List.{List, [], _∷_, _++_}
 use mathlib.Core.Path.{_≡_}
-use mathlib.Core.Logic.{_⊎_}
+use mathlib.Core.Logic.{_⊎_, _≢_}
 use Prim.Native.Nat.{ℕ, _+_, _-_, _≤_, _<_}
 use lib.ListN.{length, getD, drop}
 use lib.Dec.{eqb}
-use Rattle.isa.specs.Classes.{Class, ref, classOf, row, kind, member, kind-unknown, kind-unsupported, kind-ext, kind-variable, kind-pick, kind-goto, kind-if-goto}
+use Rattle.isa.specs.Classes.{Class, ref, classOf, row, kind, member, kind-unknown, kind-unsupported, kind-ext, kind-variable, kind-pick, kind-goto, kind-if-goto, kind-end}
 use Rattle.isa.specs.Decode.{classAt, kindAt, operandBytes, next, operand, picked, needed, left, heightAfter}
 use Rattle.isa.specs.Starts.{startsFrom, isStart}
 use Rattle.isa.specs.Held.{held}
@@ -31,8 +31,27 @@ variable-operands = table.variable-operands
 pub jump-operands : (op : ℕ) → kind-goto ≤ kind (classOf op) → kind (classOf op) ≤ kind-if-goto → getD (row (classOf op)) 0 0 ≡ 2
 jump-operands = table.jump-operands
 
+pub pick-operands : (op : ℕ) → kind (classOf op) ≡ kind-pick → getD (row (classOf op)) 0 0 ≡ 1
+pick-operands = table.pick-operands
+
 pub known-low : (op : ℕ) → kind-unknown < kind (classOf op) → op < 53
 known-low = table.known-low
+
+pub kind-most : (op : ℕ) → kind (classOf op) ≤ kind-end
+kind-most = table.kind-most
+
+-- cells needed and left by kind
+pub pick-cells : (op : ℕ) → kind (classOf op) ≡ kind-pick → (getD (row (classOf op)) 1 0 ≡ 1) × (getD (row (classOf op)) 2 0 ≡ 2)
+pick-cells = table.pick-cells
+
+pub goto-cells : (op : ℕ) → kind (classOf op) ≡ kind-goto → (getD (row (classOf op)) 1 0 ≡ 0) × (getD (row (classOf op)) 2 0 ≡ 0)
+goto-cells = table.goto-cells
+
+pub if-goto-cells : (op : ℕ) → kind (classOf op) ≡ kind-if-goto → (getD (row (classOf op)) 1 0 ≡ 1) × (getD (row (classOf op)) 2 0 ≡ 0)
+if-goto-cells = table.if-goto-cells
+
+pub end-cells : (op : ℕ) → kind (classOf op) ≡ kind-end → (getD (row (classOf op)) 1 0 ≡ 0) × (getD (row (classOf op)) 2 0 ≡ 0)
+end-cells = table.end-cells
 
 -- at most 8 bytes are an operand, and at most 8 are read by a ref
 pub operands-most : (op : ℕ) → getD (row (classOf op)) 0 0 ≤ 8
@@ -43,16 +62,19 @@ ref-most = table.ref-most
 
 -- ---- cells: from a row and the N of pick N as the code has them
 module _ (e : List ℕ) (k : ℕ) where
+  pub picked-pick : (x : ℕ) → x ≡ operand e k → kindAt e k ≡ kind-pick → x ≡ picked e k
+  picked-pick = decoding.picked-pick e k
+
   pub needed-by : (n p : ℕ) → n ≡ getD (row (classOf (getD e k 0))) 1 0 → p ≡ picked e k → n + p ≡ needed e k
   needed-by = decoding.needed-by e k
 
   pub left-by : (n p : ℕ) → n ≡ getD (row (classOf (getD e k 0))) 2 0 → p ≡ picked e k → n + p ≡ left e k
   left-by = decoding.left-by e k
 
-  pub needed-row : (n : ℕ) → n ≡ getD (row (classOf (getD e k 0))) 1 0 → kindAt e k < kind-pick → n ≡ needed e k
+  pub needed-row : (n : ℕ) → n ≡ getD (row (classOf (getD e k 0))) 1 0 → kindAt e k ≢ kind-pick → n ≡ needed e k
   needed-row = decoding.needed-row e k
 
-  pub left-row : (n : ℕ) → n ≡ getD (row (classOf (getD e k 0))) 2 0 → kindAt e k < kind-pick → n ≡ left e k
+  pub left-row : (n : ℕ) → n ≡ getD (row (classOf (getD e k 0))) 2 0 → kindAt e k ≢ kind-pick → n ≡ left e k
   left-row = decoding.left-row e k
 
   pub after-by : (h n m : ℕ) → n ≡ needed e k → m ≡ left e k → h - n + m ≡ heightAfter e k h

@@ -10,7 +10,7 @@ use lib.ListN.{getD}
 use lib.Dec.{T, eqb, leb, ltb, eqb→eq, leb→le, ltb→lt}
 use borrow.Author.Tests.{eq-eqb, ne-eqb}
 use Rattle.encoding.proofs.Promises.{and-left, and-right}
-use Rattle.isa.specs.Classes.{Class, binary, trace, tracenz, unary, ref, trace-quick, ext, zero-ext, setv, if-goto, goto, constant, reg, getv, tracev, end, dup, pop, swap, pick, rot, unsupported, unknown, row, kind, member, opcodes, among, classOf, kind-unknown, kind-unsupported, kind-ext, kind-variable, kind-goto, kind-if-goto, kind-pick}
+use Rattle.isa.specs.Classes.{Class, binary, trace, tracenz, unary, ref, trace-quick, ext, zero-ext, setv, if-goto, goto, constant, reg, getv, tracev, end, dup, pop, swap, pick, rot, unsupported, unknown, row, kind, member, opcodes, among, classOf, kind-unknown, kind-unsupported, kind-ext, kind-variable, kind-goto, kind-if-goto, kind-end, kind-pick}
 use Rattle.isa.specs.Rows.{line, rowsFrom, table}
 
 -- ---- what one test shows of every opcode
@@ -38,9 +38,13 @@ implies a b = not a || b
 implied : (a b x y : ℕ) → a ≡ b → T (implies (eqb a b) (eqb x y)) → x ≡ y
 implied a b x y h t = eqb→eq x y (rw (eq-eqb a b h) at t)
 
+column-of : (j k n : ℕ) → T (everyClass (λ c. implies (eqb (kind c) k) (eqb (getD (row c) j 0) n)) opcodes)
+    → (op : ℕ) → kind (classOf op) ≡ k → getD (row (classOf op)) j 0 ≡ n
+column-of j k n t op h = implied _ _ _ _ h (rule (λ c. implies (eqb (kind c) k) (eqb (getD (row c) j 0) n)) t op)
+
 pub operands-of : (k n : ℕ) → T (everyClass (λ c. implies (eqb (kind c) k) (eqb (getD (row c) 0 0) n)) opcodes)
     → (op : ℕ) → kind (classOf op) ≡ k → getD (row (classOf op)) 0 0 ≡ n
-operands-of k n t op h = implied _ _ _ _ h (rule (λ c. implies (eqb (kind c) k) (eqb (getD (row c) 0 0) n)) t op)
+operands-of = column-of 0
 
 -- an opcode that is unknown or unsupported has no operand bytes
 unknown-operands : (op : ℕ) → kind (classOf op) ≡ kind-unknown → getD (row (classOf op)) 0 0 ≡ 0
@@ -77,7 +81,28 @@ if-goto-operands = operands-of kind-if-goto 2 tt
 pub jump-operands : (op : ℕ) → kind-goto ≤ kind (classOf op) → kind (classOf op) ≤ kind-if-goto → getD (row (classOf op)) 0 0 ≡ 2
 jump-operands op l h = elim (ℕ-discrete (kind (classOf op)) kind-goto) [ yes p ↦ goto-operands op p | no p ↦ if-goto-operands op (omega arith) ]
 
+-- ---- cells needed and left by kind
+pub pick-cells : (op : ℕ) → kind (classOf op) ≡ kind-pick → (getD (row (classOf op)) 1 0 ≡ 1) × (getD (row (classOf op)) 2 0 ≡ 2)
+unfolding opcodes
+pick-cells op h = (column-of 1 kind-pick 1 tt op h, column-of 2 kind-pick 2 tt op h)
+
+pub goto-cells : (op : ℕ) → kind (classOf op) ≡ kind-goto → (getD (row (classOf op)) 1 0 ≡ 0) × (getD (row (classOf op)) 2 0 ≡ 0)
+unfolding opcodes
+goto-cells op h = (column-of 1 kind-goto 0 tt op h, column-of 2 kind-goto 0 tt op h)
+
+pub if-goto-cells : (op : ℕ) → kind (classOf op) ≡ kind-if-goto → (getD (row (classOf op)) 1 0 ≡ 1) × (getD (row (classOf op)) 2 0 ≡ 0)
+unfolding opcodes
+if-goto-cells op h = (column-of 1 kind-if-goto 1 tt op h, column-of 2 kind-if-goto 0 tt op h)
+
+pub end-cells : (op : ℕ) → kind (classOf op) ≡ kind-end → (getD (row (classOf op)) 1 0 ≡ 0) × (getD (row (classOf op)) 2 0 ≡ 0)
+unfolding opcodes
+end-cells op h = (column-of 1 kind-end 0 tt op h, column-of 2 kind-end 0 tt op h)
+
 -- ---- bounds of a row
+pub kind-most : (op : ℕ) → kind (classOf op) ≤ kind-end
+unfolding opcodes
+kind-most op = leb→le _ _ (rule (λ c. leb (kind c) kind-end) tt op)
+
 pub operands-most : (op : ℕ) → getD (row (classOf op)) 0 0 ≤ 8
 unfolding opcodes
 operands-most op = leb→le _ _ (rule (λ c. leb (getD (row c) 0 0) 8) tt op)

@@ -4,8 +4,9 @@ ghost use mathlib.Core.Path.{_≡_};
 ghost use Prim.Native.Nat.{_+_, _≤_, _<_, _^_, _-_};
 ghost use lib.ListN.{length, getD, replicate, drop};
 ghost use Rattle.encoding.specs.Tried.{Decides};
+ghost use Rattle.isa.specs.Classes.{classOf};
 ghost use Rattle.isa.specs.Held.{held};
-ghost use Rattle.isa.specs.Rows.{table, IsRow};
+ghost use Rattle.isa.specs.Rows.{table, line, IsRow};
 ghost use Rattle.isa.specs.Decode.{operandBytes, operand, next, picked};
 
 // A row by opcode: operand bytes, cells needed, cells left in their place, kind (specs/Classes.antt). That of pick is for N = 0.
@@ -104,6 +105,16 @@ pub fn known_row(rows: &[[u8; 4]; 53], opcode: u8) -> Row
         left: row[2],
         kind: row[3],
     }
+}
+
+// One number of the row of an opcode that has one: operand bytes (0), cells needed (1), cells left (2) or kind (3). A loop that wants speed
+// reads the numbers one by one: a whole row is taken apart by shifts.
+pub fn column(rows: &[[u8; 4]; 53], opcode: u8, which: usize) -> u8
+    requires { ⌜ now rows ≡ table ⌝ ∗ ⌜ opcode < 53 ⌝ ∗ ⌜ which < 4 ⌝ }
+    ensures { λ r. ⌜ r ≡ getD (line (classOf opcode)) which 0 ⌝ }
+{
+    let at = opcode as usize;
+    rows[at][which]
 }
 
 // The row of any opcode.

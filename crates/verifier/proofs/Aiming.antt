@@ -1,5 +1,5 @@
 -- Pass 2 as the code runs it: the table of marks, the refusal at a jump case by case, and the loop over the jumps noted.
-use mathlib.Core.Bool.{Bool, true, false, _||_}
+use mathlib.Core.Bool.{Bool, true, false}
 use mathlib.Core.List.{List, [], _∷_}
 use mathlib.Core.Path.{_≡_, refl, ap, sym, _∙_}
 use mathlib.Core.Logic.{_≢_}
@@ -8,50 +8,23 @@ use native.Mathlib.Nat.{not-suc-le-zero, le-of-suc-le-suc}
 use native.Mathlib.Numerals.{add-one}
 use native.Mathlib.Omega.{arith}
 use native.Mathlib.Decide.{ℕ-discrete}
-use lib.ListN.{getD, length, set, take, drop, replicate, length-set, length-replicate, getD-replicate, drop-of-length-le}
-use lib.Seq.{getD-set-same, getD-set-other, getD-take, drop-cons, length-take-le}
-use lib.Dec.{eqb}
-use borrow.Author.Tests.{eq-eqb, ne-eqb, le-leb, lt-leb}
+use lib.ListN.{getD, length, take, drop, drop-of-length-le}
+use lib.Seq.{getD-take, drop-cons, length-take-le}
+use borrow.Author.Tests.{le-leb, lt-leb}
 use Rattle.isa.specs.Classes.{member}
 use Rattle.isa.specs.Decode.{operand, jumps}
 use Rattle.isa.specs.Starts.{starts, isStart}
 use Rattle.isa.proofs.Promises.{member-here, member-there, start-below}
 use Rattle.verifier.specs.Fault.{none, fault, first}
 use Rattle.verifier.specs.Pass2.{fault2, pass2}
-use Rattle.verifier.specs.Tables.{noMarks, marked, marksOf, jumpsAmong, jumpStarts, Noted, aimOf}
+use Rattle.verifier.specs.Tables.{Marked, jumpsAmong, jumpStarts, Noted, aimOf}
 use Rattle.verifier.specs.declared.Aim.the-variants.{Fine, Fault as Aim·Fault}
 use Rattle.verifier.proofs.Decoded.{first-nil, first-ok, first-fault}
 
 -- ---- the table of marks
-or-true : (b : Bool) → (b || true) ≡ true
-or-true true = refl
-or-true false = refl
-
-or-false : (b : Bool) → (b || false) ≡ b
-or-false true = refl
-or-false false = refl
-
-mark-one : (k x : ℕ) (b : Bool) (a : List Bool) → k < length a → (b || getD (set a x true) k false) ≡ ((eqb k x || b) || getD a k false)
-mark-one k x b a h =
-    elim (ℕ-discrete k x) [
-      | yes p ↦ rw (eq-eqb k x p, p, getD-set-same a x true false (rw p at h)) (or-true b)
-      | no p ↦ rw (ne-eqb k x p, getD-set-other a x k true false p)
-    ]
-
-marked-at : (ks : List ℕ) (a : List Bool) (k : ℕ) → k < length a → getD (marked ks a) k false ≡ (member k ks || getD a k false)
-marked-at [] a k h = refl
-marked-at (x ∷ ks) a k h = marked-at ks (set a x true) k (rw length-set h) ∙ mark-one k x (member k ks) a h
-
-marks-at : (e : List ℕ) (k : ℕ) → k < 1024 → getD (marksOf e) k false ≡ isStart e k
-unfolding marksOf noMarks isStart
-marks-at e k h =
-    marked-at (starts e) (replicate 1024 false) k (rw (length-replicate 1024 false) h)
-    ∙ ap (λ (b : Bool). member k (starts e) || b) (getD-replicate 1024 k false false h)
-    ∙ or-false (member k (starts e))
-
 -- the mark that the table has at t says whether u, which equals t, is a start
-pub mark-says : (e : List ℕ) (u : ℕ) (a : List Bool) (t : ℕ) (b : Bool) → getD a t false ≡ b → a ≡ marksOf e → t ≡ u → t < 1024 → isStart e u ≡ b
-mark-says e u a t b m p q h = ap (isStart e) (sym q) ∙ sym (marks-at e t h) ∙ ap (λ (x : List Bool). getD x t false) (sym p) ∙ m
+pub mark-says : (e : List ℕ) (u : ℕ) (m : List Bool) (t : ℕ) (b : Bool) → getD m t false ≡ b → Marked e m → t ≡ u → t < length e → isStart e u ≡ b
+mark-says e u m t b p q r h = ap (isStart e) (sym r) ∙ sym (q .says t h) ∙ p
 
 -- ---- the refusal at a jump, case by case
 module _ (e : List ℕ) (k : ℕ) (j : jumps e k ≡ true) where

@@ -3,37 +3,29 @@ use mathlib.Core.Bool.{Bool, true, false, cond}
 use mathlib.Core.List.{List, [], _∷_}
 use mathlib.Core.Path.{_≡_}
 use mathlib.Core.Logic.{_≢_}
-use Prim.Native.Nat.{ℕ, _+_, _≤_}
-use lib.ListN.{getD, length, set, take, replicate}
+use Prim.Native.Nat.{ℕ, _+_, _*_, _≤_, _<_, max}
+use lib.ListN.{getD, length, set, take}
 use lib.Dec.{eqb}
-use Rattle.isa.specs.Decode.{jumps, heightAfter}
+use Rattle.isa.specs.Decode.{jumps, continues, heightAfter}
 use Rattle.isa.specs.Starts.{starts, isStart}
-use Rattle.isa.specs.Walk.{one}
 use Rattle.verifier.specs.Fault.{Fault, none, fault}
 use Rattle.verifier.specs.Pass1.{pass1, Decodes}
 use Rattle.verifier.specs.Pass2.{Aims}
-use Rattle.verifier.specs.Pass3.{unreached, Outcome, done, stopped, heightsAlong, fault3}
+use Rattle.verifier.specs.Pass3.{unreached, differing, joined, arrive, raise, atTarget, longer, fault3, Outcome, done, stopped}
 use Rattle.verifier.specs.declared.Scan.{Scan}
 use Rattle.verifier.specs.declared.Scan.the-variants.{Count as Scan·Count, Fault as Scan·Fault}
 use Rattle.verifier.specs.declared.Aim.{Aim}
 use Rattle.verifier.specs.declared.Aim.the-variants.{Fine as Aim·Fine, Fault as Aim·Fault}
 use Rattle.verifier.specs.declared.Measure.{Measure}
 use Rattle.verifier.specs.declared.Measure.the-variants.{Fine as Measure·Fine, Fault as Measure·Fault}
-use Rattle.verifier.specs.declared.Effect.{Effect}
-use Rattle.verifier.specs.declared.Effect.the-variants.{Height as Effect·Height, Fault as Effect·Fault}
+use Rattle.verifier.specs.declared.Flow.{Flow}
 use Rattle.verifier.specs.declared.Step.{Step}
 
 -- ---- pass 1
--- a mark for each offset: whether it is a start
-unfoldable pub noMarks : List Bool
-noMarks = replicate 1024 false
-
-abbrev pub marked : List ℕ → List Bool → List Bool
-marked [] a = a
-marked (k ∷ ks) a = marked ks (set a k true)
-
-unfoldable pub marksOf : List ℕ → List Bool
-marksOf e = marked (starts e) noMarks
+-- the table has a mark for each offset: whether it is a start
+pub record Marked (e : List ℕ) (m : List Bool) : Type 0 where
+  pub long : length e ≤ length m
+  pub says : (k : ℕ) → k < length e → getD m k false ≡ isStart e k
 
 -- the starts of jumps
 unfoldable pub jumpsAmong : List ℕ → List ℕ → List ℕ
@@ -49,9 +41,15 @@ pub record Noted (e : List ℕ) (a : List ℕ) (n : ℕ) : Type 0 where
   pub room : n ≤ length a
   pub same : take n a ≡ jumpStarts e
 
+-- the tables with which pass 1 begins
+pub record Unmarked (e : List ℕ) (m : List Bool) (a : List ℕ) : Type 0 where
+  pub marks-long : length e ≤ length m
+  pub jumps-long : length e ≤ 3 * length a + 2
+  pub no-mark : (k : ℕ) → getD m k false ≡ false
+
 -- what pass 1 leaves: the number of instructions and of jumps with both tables, or its refusal
 abbrev pub Scanned : List ℕ → Scan → List Bool → List ℕ → Type 0
-Scanned e (Scan·Count n j) m a = Decodes e × (n ≡ length (starts e)) × (m ≡ marksOf e) × Noted e a j
+Scanned e (Scan·Count n j) m a = Decodes e × (n ≡ length (starts e)) × Marked e m × Noted e a j
 Scanned e (Scan·Fault r k) m a = pass1 e ≡ fault r k
 
 -- a start k is noted behind the n jumps before it where b says that it is a jump: m jumps and the table a′
@@ -71,12 +69,16 @@ aimOf none = Aim·Fine
 aimOf (fault r k) = Aim·Fault r k
 
 -- ---- pass 3
-unfoldable pub effectOf : List ℕ → ℕ → ℕ → Effect
-effectOf e k h = cond (eqb (fault3 e k h) 0) (Effect·Height (heightAfter e k h)) (Effect·Fault (fault3 e k h))
-
 unfoldable pub measureOf : Outcome → Measure
 measureOf (done hs ds g l) = Measure·Fine g l
 measureOf (stopped r k) = Measure·Fault r k
+
+-- the tables with which pass 3 begins
+pub record Unmeasured (e hs ds : List ℕ) : Type 0 where
+  pub heights-long : length e ≤ length hs
+  pub distances-long : length e ≤ length ds
+  pub no-height : (k : ℕ) → k < length e → getD hs k 0 ≡ unreached
+  pub no-distance : (k : ℕ) → getD ds k 0 ≡ 0
 
 -- the start k of an expression for which passes 1 and 2 hold
 pub record Passing (e : List ℕ) (k : ℕ) : Type 0 where
@@ -85,17 +87,68 @@ pub record Passing (e : List ℕ) (k : ℕ) : Type 0 where
   pub aims : Aims e
   pub start : isStart e k ≡ true
 
--- the start k is reached, with height h, and its distance is small
-pub record Arrived (hs ds : List ℕ) (k h : ℕ) : Type 0 where
-  pub height : getD hs k 0 ≡ h
-  pub reached : h ≢ unreached
-  pub near : getD ds k 0 ≤ 1024
+-- what comes to a start where jumps have brought the height c and the height h flows in from the start before, or nothing (`unreached`);
+-- and the distance, where jumps have brought b and d flows in with h
+abbrev pub arrived : ℕ → ℕ → ℕ
+arrived c h = cond (eqb h unreached) c (joined c h)
 
--- no distance is greater than b
-abbrev pub AtMost : ℕ → List ℕ → Type 0
-AtMost b ds = (j : ℕ) → getD ds j 0 ≤ b
+abbrev pub farther : ℕ → ℕ → ℕ → ℕ
+farther h b d = cond (eqb h unreached) b (max b d)
 
--- one start of pass 3: from the tables hs and ds to hs′ and ds′, whatever starts follow
-pub record Stepped (e : List ℕ) (k : ℕ) (hs ds : List ℕ) (g l : ℕ) (r : Step) (hs′ ds′ : List ℕ) : Type 0 where
-  pub same : (ks : List ℕ) → heightsAlong one e (k ∷ ks) hs ds g l ≡ cond (eqb (r .fault) 0) (heightsAlong one e ks hs′ ds′ (r .greatest) (r .longest)) (stopped (r .fault) k)
-  pub low : (b : ℕ) → AtMost b ds → getD ds k 0 + 1 ≤ b → AtMost b ds′
+pub record Incoming (c b h d : ℕ) (r : Flow) : Type 0 where
+  pub height-is : r .height ≡ arrived c h
+  pub small : r .height < 256
+  pub distance-is : r .height ≢ unreached → r .distance ≡ farther h b d
+
+-- the code stands at the start k, to which h and d flow in
+pub record Standing (e : List ℕ) (k h d : ℕ) (hs ds : List ℕ) : Type 0 where
+  pub passing : Passing e k
+  pub small : h < 256
+  pub near : d ≤ 1024
+  pub low : getD ds k 0 ≤ 1024
+  pub untold : getD hs k 0 ≡ unreached → getD ds k 0 ≡ 0
+  pub heights-long : length e ≤ length hs
+  pub distances-long : length e ≤ length ds
+
+-- the start k is reached with height h, after d instructions
+pub record Reached (e : List ℕ) (k h d : ℕ) (hs ds : List ℕ) : Type 0 where
+  pub passing : Passing e k
+  pub small : h < 256
+  pub same : h ≢ differing
+  pub near : d ≤ 1024
+  pub heights-long : length e ≤ length hs
+  pub distances-long : length e ≤ length ds
+
+-- what an instruction makes of h and d, where it is not refused
+pub record Onward (e : List ℕ) (k h d g l : ℕ) (r : Step) : Type 0 where
+  pub height-is : r .height ≡ heightAfter e k h
+  pub distance-is : r .distance ≡ d + 1
+  pub greatest-is : r .greatest ≡ max g (heightAfter e k h)
+  pub longest-is : r .longest ≡ l
+
+pub record Effected (e : List ℕ) (k h d g l : ℕ) (r : Step) : Type 0 where
+  pub number : r .fault ≡ fault3 e k h
+  pub onward : r .fault ≡ 0 → Onward e k h d g l r
+
+-- what it leaves in the tables: what it brings to its target
+pub record Told (e : List ℕ) (k h d : ℕ) (r : Step) (hs ds hs′ ds′ : List ℕ) : Type 0 where
+  pub heights-are : r .fault ≡ 0 → hs′ ≡ atTarget e k (arrive (heightAfter e k h)) hs
+  pub distances-are : r .fault ≡ 0 → ds′ ≡ atTarget e k (raise (d + 1)) ds
+
+-- what flows on from it to the next start, if anything does
+pub record Passed (e : List ℕ) (k h d g l : ℕ) (r : Step) : Type 0 where
+  pub height-is : r .height ≡ cond (continues e k) (heightAfter e k h) unreached
+  pub distance-is : r .distance ≡ d + 1
+  pub greatest-is : r .greatest ≡ max g (heightAfter e k h)
+  pub longest-is : r .longest ≡ longer e k (d + 1) l
+
+-- one reached start of pass 3
+pub record Stepped (e : List ℕ) (k h d g l : ℕ) (r : Step) (hs ds hs′ ds′ : List ℕ) : Type 0 where
+  pub number : r .fault ≡ fault3 e k h
+  pub passed : r .fault ≡ 0 → Passed e k h d g l r
+  pub told : Told e k h d r hs ds hs′ ds′
+
+-- one start of pass 3, reached or not
+pub record Turned (e : List ℕ) (k : ℕ) (hs ds : List ℕ) (h d g l : ℕ) (r : Step) (hs′ ds′ : List ℕ) : Type 0 where
+  pub skipped : arrived (getD hs k 0) h ≡ unreached → (r ≡ record { fault = 0; height = unreached; distance = d; greatest = g; longest = l }) × (hs′ ≡ hs) × (ds′ ≡ ds)
+  pub stepped : arrived (getD hs k 0) h ≢ unreached → Stepped e k (arrived (getD hs k 0) h) (farther h (getD ds k 0) d) g l r hs ds hs′ ds′
