@@ -126,7 +126,7 @@ pub extern "C" fn lilivrez_run_default<'a>(
 ) -> u32
     ensures { λ r. ⌜ ToldRun tracepoint (now (variables .entry)) (now (buffer .entry)) used (ended (fed (now (expression .entry)) (now (registers .entry)) «image_first» (now (image .entry)) «work_first» (now (work .entry))) (now (variables .entry)) (now (buffer .entry)) used defaultAllowance) r (now (out .exit)) (now (variables .exit)) (now (buffer .exit)) ⌝ }
 {
-    let outcome = runner::run_default(
+    lilivrez_run(
         expression,
         registers,
         image_first,
@@ -137,8 +137,9 @@ pub extern "C" fn lilivrez_run_default<'a>(
         buffer,
         used,
         tracepoint,
-    );
-    tell(outcome, used, out)
+        runner::DEFAULT_ALLOWANCE,
+        out,
+    )
 }
 
 // ---- frames

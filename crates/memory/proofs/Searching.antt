@@ -1,18 +1,15 @@
 -- The search for a zero byte: what its outcome says, and the loop of `find_zero`.
-use mathlib.Core.Bool.{cond}
+use mathlib.Core.Bool.{Bool, true, false}
 use mathlib.Core.List.{List, [], _∷_}
 use mathlib.Core.Logic.{_≢_}
 use mathlib.Core.Path.{_≡_, refl, sym, ap, _∙_}
 use Prim.Native.Nat.{ℕ, zero, suc, _+_, _-_, _≤_, _<_}
-use native.Mathlib.Nat.{sub-self, sub-zero, zero-add, add-zero, add-assoc}
-use native.Mathlib.Numerals.{add-one}
 use native.Mathlib.Omega.{arith}
 use lib.Dec.{eqb}
-use lib.ListN.{length, drop, getD, drop-of-length-le}
-use lib.Seq.{drop-cons}
-use borrow.Author.Tests.{eq-eqb, ne-eqb, eqb-true, eqb-false}
-use Rattle.encoding.proofs.Promises.{cases}
-use Rattle.memory.specs.FirstZero.{past, searched, NoZero, FirstZero, Says}
+use lib.ListN.{length, getD}
+use borrow.Author.Tests.{eqb-true, eqb-false}
+use Rattle.encoding.proofs.Promises.{cases, no-true}
+use Rattle.memory.specs.FirstZero.{past, searched, NoZero, FirstZero, Looked, Passed, Says}
 use Rattle.memory.specs.declared.Search.{Search}
 use Rattle.memory.specs.declared.Search.the-variants.{Found, Reached, Ended}
 use Rattle.memory.proofs.Choosing.{cond-elim}
@@ -71,51 +68,43 @@ module _ (size : ℕ) (l : List ℕ) where
   pub says-search : (s : Search) → Says size l s → s ≡ searched size l
   says-search s h = one-says s (searched size l) h (search-says size l)
 
--- ---- the loop: k bytes are passed, none of them zero
-past-past : (j k : ℕ) (s : Search) → past j (past k s) ≡ past (j + k) s
-past-past j k (Found n) = ap Found (sym (add-assoc j k n))
-past-past j k (Reached n) = ap Reached (sym (add-assoc j k n))
-past-past j k (Ended n) = ap Ended (sym (add-assoc j k n))
+-- ---- bytes looked at, one after the other
+pub looked-none : (l : List ℕ) (a : ℕ) → Looked l a 0 false
+looked-none l a = record { none = λ e i h. omega arith; some = no-true }
 
-past-none : (s : Search) → s ≡ past 0 s
-past-none (Found n) = rw zero-add
-past-none (Reached n) = rw zero-add
-past-none (Ended n) = rw zero-add
+module _ {l : List ℕ} {a n : ℕ} {found after : Bool} (p : Looked l a n found) where
+  pub looked-zero : getD l (a + n) 0 ≡ 0 → after ≡ true → Looked l a (n + 1) after
+  looked-zero z q = record { none = λ e. no-true (sym e ∙ q); some = λ e. (n, omega arith, z) }
 
-pub record Passed (l : List ℕ) (size k : ℕ) : Type 0 where
-  pub within : k ≤ size
-  pub inside : k ≤ length l
-  pub rest : searched size l ≡ past k (searched (size - k) (drop k l))
-
-pub passed-start : (l : List ℕ) (size : ℕ) → Passed l size 0
-passed-start l size = record { within = omega arith; inside = omega arith; rest = rw sub-zero (past-none (searched size l)) }
-
-module _ (l : List ℕ) (size k : ℕ) (s : k < size) where
-  left : size - k ≡ suc (size - (k + 1))
-  left = omega arith
-
-  search-byte : k < length l → searched (size - k) (drop k l) ≡ cond (eqb (getD l k 0) 0) (Found 1) (past 1 (searched (size - (k + 1)) (drop (k + 1) l)))
-  unfolding searched
-  search-byte i = rw (left, drop-cons l k 0, ← (add-one k))
-
-  search-end : length l ≤ k → searched (size - k) (drop k l) ≡ Ended 0
-  unfolding searched
-  search-end i = rw (left, drop-of-length-le l i)
-
-module _ {l : List ℕ} {size k : ℕ} (h : Passed l size k) where
-  pub passed-size : k ≡ size → Reached k ≡ searched size l
-  unfolding searched
-  passed-size e = sym (rw (e, sub-self, add-zero) at (h .rest) ∙ ap Reached (sym e))
-
-  pub passed-end : k < size → length l ≤ k → Ended k ≡ searched size l
-  passed-end s i = sym (rw (search-end l size k s i, add-zero) at (h .rest))
-
-  pub passed-zero : k < size → k < length l → getD l k 0 ≡ 0 → Found (k + 1) ≡ searched size l
-  passed-zero s i z = sym (rw (search-byte l size k s i, eq-eqb (getD l k 0) 0 z) at (h .rest))
-
-  pub passed-turn : k < size → k < length l → getD l k 0 ≢ 0 → Passed l size (k + 1)
-  passed-turn s i z = record {
-    within = omega arith;
-    inside = omega arith;
-    rest = rw (search-byte l size k s i, ne-eqb (getD l k 0) 0 z) at (h .rest) ∙ past-past k 1 (searched (size - (k + 1)) (drop (k + 1) l));
+  pub looked-other : getD l (a + n) 0 ≢ 0 → after ≡ found → Looked l a (n + 1) after
+  looked-other z q = record {
+    none = λ e i h. cases i n (λ lt. p .none (sym q ∙ e) i lt) (λ ge. let d : i ≡ n = omega arith in rw d z);
+    some = λ e. let s = p .some (sym q ∙ e) in (s .0, omega (arith, s .1), s .2);
   }
+
+-- ---- bytes passed, of which none is zero
+pub passed-none : (l : List ℕ) (n : ℕ) → Passed l n 0
+passed-none l n = record { within = omega arith; none = λ i h. omega arith }
+
+module _ {l : List ℕ} {n k : ℕ} (p : Passed l n k) where
+  pub passed-turn : k < n → getD l k 0 ≢ 0 → Passed l n (k + 1)
+  passed-turn h z = record { within = omega arith; none = λ i s. cases i k (λ lt. p .none i lt) (λ ge. let e : i ≡ k = omega arith in rw e z) }
+
+  pub passed-block : {w : ℕ} {found : Bool} → Looked l k w found → found ≡ false → k + w ≤ n → Passed l n (k + w)
+  passed-block q f h = record {
+    within = h;
+    none = λ i s. cases i k (λ lt. p .none i lt) (λ ge. let e : i ≡ k + (i - k) = omega arith in rw e (q .none f (i - k) (omega arith)));
+  }
+
+  -- the search stops: k bytes are passed, n is the limit
+  module _ (size : ℕ) where
+    pub passed-size : n ≡ size → n ≤ length l → n ≤ k → Reached n ≡ searched size l
+    passed-size e i h = says-search size l (Reached n) (record { all = e; exist = omega arith; none = λ i s. p .none i (omega arith) })
+
+    pub passed-end : n < size → n ≡ length l → n ≤ k → Ended n ≡ searched size l
+    passed-end s e h = says-search size l (Ended n) (record { all = e; fewer = omega arith; none = λ i s. p .none i (omega arith) })
+
+    pub passed-zero : k < size → k < length l → getD l k 0 ≡ 0 → Found (k + 1) ≡ searched size l
+    passed-zero s i z =
+        let e : k + 1 - 1 ≡ k = omega arith in
+        says-search size l (Found (k + 1)) (record { some = omega arith; zero-there = rw e z; none-before = λ i s. p .none i (omega arith); in-size = omega arith; in-bytes = omega arith })

@@ -2,11 +2,11 @@
 // Sums of addresses could wrap: addresses are compared by differences.
 ghost use mathlib.Core.Path.{_≡_};
 ghost use mathlib.Core.Bool.{true};
-ghost use Prim.Native.Nat.{_-_, min};
+ghost use Prim.Native.Nat.{_+_, _-_, _≤_, min};
 ghost use lib.ListN.{length, take, drop};
 ghost use Rattle.memory.specs.Spans.{endsPast, shareAddress, spansRefusal};
 ghost use Rattle.memory.specs.Fetch.{holdsRange, fetchRefusal, fetched, restOf};
-ghost use Rattle.memory.specs.FirstZero.{searched};
+ghost use Rattle.memory.specs.FirstZero.{searched, Looked, Passed};
 
 // Whether first + len exceeds 2^64.
 fn ends_past(first: u64, len: u64) -> bool
@@ -167,12 +167,44 @@ fn smaller(a: usize, b: usize) -> usize
     b
 }
 
-// Searches the first `size` bytes. Both ends are one limit, so that a byte costs two tests.
+// Whether one of the `count` bytes from `at` on is zero. Every one is looked at, so that the compiler compares them all at once where `count`
+// is a literal.
+fn has_zero(bytes: &[u8], at: usize, count: usize) -> bool
+    requires { ⌜ at + count ≤ length (now bytes) ⌝ }
+    ensures { λ r. ⌜ Looked (now (bytes .entry)) at count r ⌝ }
+{
+    let mut found = false;
+    let mut seen = 0;
+    while seen < count {
+        if bytes[at + seen] == 0 {
+            found = true;
+        }
+        seen += 1;
+    }
+    found
+}
+
+// How many of the first `limit` bytes come in blocks of 8 that have no zero.
+fn before_zero(bytes: &[u8], limit: usize) -> usize
+    requires { ⌜ limit ≤ length (now bytes) ⌝ }
+    ensures { λ r. ⌜ Passed (now (bytes .entry)) limit r ⌝ }
+{
+    let mut passed = 0;
+    while 8 <= limit - passed {
+        if has_zero(bytes, passed, 8) {
+            return passed;
+        }
+        passed += 8;
+    }
+    passed
+}
+
+// Searches the first `size` bytes: by blocks as far as no zero comes, then byte by byte. Both ends are one limit.
 pub fn find_zero(bytes: &[u8], size: usize) -> Search
     ensures { λ r. ⌜ r ≡ searched size (now (bytes .entry)) ⌝ }
 {
     let limit = smaller(size, bytes.len());
-    let mut passed = 0;
+    let mut passed = before_zero(bytes, limit);
     let outcome = loop {
         if limit <= passed {
             if limit == size {

@@ -211,7 +211,8 @@ pub fn do_tracenz<'a>(
     onward(recorded, at, height, next, height - 2)
 }
 
-// trace_quick and trace16: the size is the operand; the address stays on top.
+// trace_quick and trace16: the size is the operand; the address stays on top. The next start is computed last: if the compiler kept it beside the
+// offset while the record is made, every step of a run would cost two machine instructions more.
 pub fn do_trace_quick<'a>(
     rows: &[[u8; 4]; 53],
     code: &[u8],
@@ -230,7 +231,6 @@ pub fn do_trace_quick<'a>(
     requires { ⌜ Here (now rows) (now code) (now cells) (trace-quick count) opcode at height ⌝ ∗ ⌜ put ≤ length (now buffer) ⌝ ∗ ⌜ spansRefusal «image_first» (now image) «work_first» (now work) ≡ 0 ⌝ }
     ensures { λ r. ⌜ Logged at put (held (now (cells .entry)) height) (now (buffer .entry)) (recording (getD (held (now (cells .entry)) height) 0 0 ∷ []) (rangeMade (fed (now (code .entry)) [] «image_first» (now (image .entry)) «work_first» (now (work .entry))) (length (now (buffer .entry)) - put) (getD (held (now (cells .entry)) height) 0 0) (operand (now (code .entry)) at))) (next (now (code .entry)) at) 1 r (now (cells .entry)) (now (buffer .exit)) ⌝ }
 {
-    let next = operations::next_of(rows, opcode, at);
     let size = isa::operand_at(code, at, count);
     let address = Stack::below(cells, height, 0);
     let recorded = record_range(
@@ -243,6 +243,7 @@ pub fn do_trace_quick<'a>(
         address,
         size,
     );
+    let next = operations::next_of(rows, opcode, at);
     onward(recorded, at, height, next, height)
 }
 

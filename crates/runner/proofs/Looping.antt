@@ -48,7 +48,7 @@ follow-by m go st (leaves cells rs) false q = rw (q, onward) refl
 follow-by m go st (faults n) b q = refl
 
 -- what the code holds: variables v, buffer b, cells a, height h, offset k, the end p of what is written, and n steps
-pub record Loop (m : Fed) (b₀ : List ℕ) (u : ℕ) (g : List ℕ) (max : ℕ) (vars v b : List ℕ) (a : List ℕ) (h k p n : ℕ) : Type 0 where
+pub record Loop (m : Fed) (b₀ : List ℕ) (u : ℕ) (g : List ℕ) (max : ℕ) (v b : List ℕ) (a : List ℕ) (h k p n : ℕ) : Type 0 where
   pub records : List Record
   pub walk : OnWalk (m .expression) k (held a h) n
   pub same : moves m (length b₀ - u) max (begin g) ≡ moves m (length b₀ - u) (max - n) (state k (held a h) v records n)
@@ -56,12 +56,11 @@ pub record Loop (m : Fed) (b₀ : List ℕ) (u : ℕ) (g : List ℕ) (max : ℕ)
   pub room : p ≤ length b₀
   pub laid : b ≡ writtenAt b₀ u (encodeAll records)
   pub within : n ≤ max
-  pub given : vars ≡ g
   pub long : length a ≡ 64
 
 module _ {m : Fed} {c₀ g₀ l₀ : ℕ} (acc : Accepted (m .expression) c₀ g₀ l₀) where
   pub loop-start : (b₀ : List ℕ) (u : ℕ) (g : List ℕ) (max : ℕ) {a : List ℕ} {h : ℕ} → u ≤ length b₀ → h ≡ 0 → length a ≡ 64
-      → Loop m b₀ u g max g g b₀ a h 0 u 0
+      → Loop m b₀ u g max g b₀ a h 0 u 0
   unfolding encodeAll held
   loop-start b₀ u g max hu z l = record {
     records = [];
@@ -71,11 +70,10 @@ module _ {m : Fed} {c₀ g₀ l₀ : ℕ} (acc : Accepted (m .expression) c₀ g
     room = hu;
     laid = sym (written-nothing b₀ u);
     within = omega arith;
-    given = refl;
     long = l;
   }
 
-module _ {m : Fed} {b₀ : List ℕ} {u : ℕ} {g : List ℕ} {max : ℕ} {vars v b : List ℕ} {a : List ℕ} {h k p n : ℕ} (l : Loop m b₀ u g max vars v b a h k p n) where
+module _ {m : Fed} {b₀ : List ℕ} {u : ℕ} {g : List ℕ} {max : ℕ} {v b : List ℕ} {a : List ℕ} {h k p n : ℕ} (l : Loop m b₀ u g max v b a h k p n) where
   pub as-long : length b ≡ length b₀
   as-long = ap length (l .laid) ∙ written-length b₀ u (encodeAll (l .records))
 
@@ -94,8 +92,8 @@ module _ {m : Fed} {b₀ : List ℕ} {u : ℕ} {g : List ℕ} {max : ℕ} {vars 
   followed lt q = move lt ∙ ap (follow (moves m (length b₀ - u) (max - (n + 1))) (state k (held a h) v (l .records) n)) q
 
 -- ---- what acceptance says where the loop stands
-module _ {m : Fed} {c₀ g₀ l₀ : ℕ} (acc : Accepted (m .expression) c₀ g₀ l₀) {b₀ : List ℕ} {u : ℕ} {g : List ℕ} {max : ℕ} {vars v b : List ℕ} {a : List ℕ} {h k p n : ℕ}
-    (l : Loop m b₀ u g max vars v b a h k p n) where
+module _ {m : Fed} {c₀ g₀ l₀ : ℕ} (acc : Accepted (m .expression) c₀ g₀ l₀) {b₀ : List ℕ} {u : ℕ} {g : List ℕ} {max : ℕ} {v b : List ℕ} {a : List ℕ} {h k p n : ℕ}
+    (l : Loop m b₀ u g max v b a h k p n) where
   at-hand : Ready (m .expression) l₀ (l .walk .list) k (length (held a h))
   at-hand = walk-ready acc (l .walk)
 
@@ -145,9 +143,9 @@ module _ {m : Fed} {c₀ g₀ l₀ : ℕ} (acc : Accepted (m .expression) c₀ g
   completes-room (faults x) e z y q = absurd (let y : _≡_ {A = ℕ} 0 1 = cc in omega arith)
 
 -- ---- a turn, and each way out. The step gave r, the cells c, the variables v′ and the buffer b′.
-module _ {m : Fed} {c₀ g₀ l₀ : ℕ} (acc : Accepted (m .expression) c₀ g₀ l₀) {b₀ : List ℕ} {u : ℕ} {g : List ℕ} {max : ℕ} {vars v b : List ℕ} {a : List ℕ} {h k p n : ℕ}
-    (l : Loop m b₀ u g max vars v b a h k p n) (lt : n < max) {r : Next} {c v′ b′ : List ℕ} where
-  turn-by : (e : Effect) → effect m k (held a h) v (length b - p) ≡ e → Did k (held a h) v b p e r c v′ b′ → r .stop ≡ 0 → Loop m b₀ u g max vars v′ b′ c (r .height) (r .at) (r .put) (n + 1)
+module _ {m : Fed} {c₀ g₀ l₀ : ℕ} (acc : Accepted (m .expression) c₀ g₀ l₀) {b₀ : List ℕ} {u : ℕ} {g : List ℕ} {max : ℕ} {v b : List ℕ} {a : List ℕ} {h k p n : ℕ}
+    (l : Loop m b₀ u g max v b a h k p n) (lt : n < max) {r : Next} {c v′ b′ : List ℕ} where
+  turn-by : (e : Effect) → effect m k (held a h) v (length b - p) ≡ e → Did k (held a h) v b p e r c v′ b′ → r .stop ≡ 0 → Loop m b₀ u g max v′ b′ c (r .height) (r .at) (r .put) (n + 1)
   unfolding effect
   turn-by (goes i t w rs) q d o = record {
     records = l .records ++ rs;
@@ -157,7 +155,6 @@ module _ {m : Fed} {c₀ g₀ l₀ : ℕ} (acc : Accepted (m .expression) c₀ g
     room = omega (arith, d .room, as-long l);
     laid = d .buffer ∙ rw (l .laid, l .put, written-more) (ap (writtenAt b₀ u) (sym (encode-all-append (l .records) rs)));
     within = omega arith;
-    given = l .given;
     long = d .long;
   }
   turn-by completes q d o = absurd (omega (arith, d .stop))
@@ -193,18 +190,18 @@ module _ {m : Fed} {c₀ g₀ l₀ : ℕ} (acc : Accepted (m .expression) c₀ g
   ends-by (refuses x) q d o t hx hz = absurd (omega (arith, d .stop, refuses-high acc l (done m k (held a h) v (length b - p)) refl (eqb (kindAt (m .expression) k) kind-end) refl q))
 
   halts-by : (e : Effect) → effect m k (held a h) v (length b - p) ≡ e → Did k (held a h) v b p e r c v′ b′ → r .stop ≢ 0 → r .stop ≢ 1 → (t : ℕ)
-      → Ran t g b₀ u (moves m (length b₀ - u) max (begin g)) (Refused (r .stop) (r .at) n) vars b′
+      → Ran t g b₀ u (moves m (length b₀ - u) max (begin g)) (Refused (r .stop) (r .at) n) g b′
   unfolding effect encodeAll leftBytes returned usedOf variablesOf bufferOf
   halts-by (refuses x) q d h0 h1 t = rw (followed l lt q, d .at) (record {
     answer = ap (λ (y : ℕ). refusedWith y k n) (d .stop);
-    variables = l .given;
+    variables = refl;
     buffer = d .buffer ∙ written-nothing b p ∙ l .laid;
   })
   halts-by (goes i t′ w rs) q d h0 h1 t = absurd (h0 (d .stop))
   halts-by completes q d h0 h1 t = absurd (h1 (d .stop))
 
   module _ (d : Did k (held a h) v b p (effect m k (held a h) v (length b - p)) r c v′ b′) where
-    pub turn : r .stop ≡ 0 → Loop m b₀ u g max vars v′ b′ c (r .height) (r .at) (r .put) (n + 1)
+    pub turn : r .stop ≡ 0 → Loop m b₀ u g max v′ b′ c (r .height) (r .at) (r .put) (n + 1)
     turn = turn-by (effect m k (held a h) v (length b - p)) refl d
 
     pub room-left : r .stop ≡ 1 → (u ≤ r .put) × (r .put + trailerSize ≤ length b′) × (length b′ ≡ length b₀) × (r .height ≤ 64)
@@ -214,14 +211,14 @@ module _ {m : Fed} {c₀ g₀ l₀ : ℕ} (acc : Accepted (m .expression) c₀ g
         → Ran t g b₀ u (moves m (length b₀ - u) max (begin g)) (Completed z (n + 1) (r .put + trailerSize)) v′ x
     ends = ends-by (effect m k (held a h) v (length b - p)) refl d
 
-    pub halts : r .stop ≢ 0 → r .stop ≢ 1 → (t : ℕ) → Ran t g b₀ u (moves m (length b₀ - u) max (begin g)) (Refused (r .stop) (r .at) n) vars b′
+    pub halts : r .stop ≢ 0 → r .stop ≢ 1 → (t : ℕ) → Ran t g b₀ u (moves m (length b₀ - u) max (begin g)) (Refused (r .stop) (r .at) n) g b′
     halts = halts-by (effect m k (held a h) v (length b - p)) refl d
 
 -- ---- the allowance is spent
-module _ {m : Fed} {b₀ : List ℕ} {u : ℕ} {g : List ℕ} {max : ℕ} {vars v b : List ℕ} {a : List ℕ} {h k p n : ℕ} (l : Loop m b₀ u g max vars v b a h k p n) where
-  pub spent : max ≤ n → (t : ℕ) → Ran t g b₀ u (moves m (length b₀ - u) max (begin g)) (Refused 16 k n) vars b
+module _ {m : Fed} {b₀ : List ℕ} {u : ℕ} {g : List ℕ} {max : ℕ} {v b : List ℕ} {a : List ℕ} {h k p n : ℕ} (l : Loop m b₀ u g max v b a h k p n) where
+  pub spent : max ≤ n → (t : ℕ) → Ran t g b₀ u (moves m (length b₀ - u) max (begin g)) (Refused 16 k n) g b
   unfolding moves leftBytes returned usedOf variablesOf bufferOf
   spent h t =
       let e : max - n ≡ 0 = omega arith in
       let o = rw e at (l .same) in
-      rw o (record { answer = refl; variables = l .given; buffer = l .laid })
+      rw o (record { answer = refl; variables = refl; buffer = l .laid })

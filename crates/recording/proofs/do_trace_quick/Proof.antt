@@ -10,9 +10,6 @@ use borrow.Author.Needs.{needs}
 use Rattle.recording.proofs.do_trace_quick.Statement.{statement}
 use Rattle.recording.proofs.do_trace_quick.Tie as tie
 
-next-of-requires : tie.Need-next-of-requires
-next-of-requires c κs = search needs
-
 operand-at-requires : tie.Need-operand-at-requires
 operand-at-requires c κs = search needs
 
@@ -22,6 +19,9 @@ below-requires c κs = search needs
 record-range-requires : tie.Need-record-range-requires
 record-range-requires c κs = search needs
 
+next-of-requires : tie.Need-next-of-requires
+next-of-requires c κs = search needs
+
 onward-requires : tie.Need-onward-requires
 onward-requires c κs = search needs
 
@@ -30,7 +30,7 @@ same-length c = search needs
 
 returns : tie.Need-returns
 returns c =
-    let w = c .before .before .before in let b = w .before .before in let n = b .before .before in let s = n .before .before .before .before .before in
+    let n = c .before in let w = n .before .before .before in let b = w .before .before in let s = b .before .before .before .before .before .before in
     logged (getD (held (now (s .args .cells)) (s .args .height)) 0 0 ∷ []) _ (kept-as (range-fed _ _ _ _ _ _ _ (b .below .ensures) (b .before .operand-at .ensures .0)) (w .record-range .ensures)) (c .onward .ensures)
     (next-here (s .pre .0) (n .next-of .ensures)) refl (held-top _ _ (s .pre .0 .cells)) (s .pre .0 .long)
 
@@ -38,10 +38,10 @@ pub do-trace-quick-spec : {M : Type 1} → statement M
 do-trace-quick-spec =
     tie.close
     (tie.spec
-    next-of-requires
     operand-at-requires
     below-requires
     record-range-requires
+    next-of-requires
     onward-requires
     same-length
     returns)

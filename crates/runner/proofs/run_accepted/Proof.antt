@@ -9,10 +9,10 @@ use Rattle.runner.proofs.run_accepted.Statement.{statement}
 use Rattle.runner.proofs.run_accepted.Tie as tie
 
 abbrev Inv-loop : tie.InvT-loop
-Inv-loop rows code registers image-first image work-first work variables₀ buffer₀ used tracepoint allowance own₀ stack₀ height₀ at₀ put₀ steps₀ variables buffer own stack height at put steps = Loop (fed code registers image-first image work-first work) buffer₀ used variables₀ allowance variables own buffer (stack .cells) height at put steps
+Inv-loop rows code registers image-first image work-first work variables₀ buffer₀ used tracepoint allowance given stack₀ height₀ at₀ put₀ steps₀ variables buffer stack height at put steps = Loop (fed code registers image-first image work-first work) buffer₀ used variables₀ allowance variables buffer (stack .cells) height at put steps
 
 abbrev μ-loop : tie.MeasureT-loop
-μ-loop rows code registers image-first image work-first work variables₀ buffer₀ used tracepoint allowance own₀ stack₀ height₀ at₀ put₀ steps₀ variables buffer own stack height at put steps = allowance - steps
+μ-loop rows code registers image-first image work-first work variables₀ buffer₀ used tracepoint allowance given stack₀ height₀ at₀ put₀ steps₀ variables buffer stack height at put steps = allowance - steps
 
 empty-requires : tie.Need-empty-requires Inv-loop μ-loop
 empty-requires c κs = search needs
@@ -35,8 +35,8 @@ sub-close-frame c = let t = c .before .before .before .before .before .before .b
 close-frame-requires : tie.Need-close-frame-requires Inv-loop μ-loop
 close-frame-requires c κs = let t = c .before .before .before .before .before .before .before .before .before .before in let s = t .before .before .before .before .before .before .before .before .before .before .before .before .before in let e = room-left (s .pre .1 .accepts) (t .before .before .before .before .before .loop .inv) (t .before .before .before .before .loop-test .taken) (t .step .ensures) (c .before .before .before .before .if2 .taken) in (e .1, omega (arith, e, s .pre .4))
 
-add-t34 : tie.Need-add-t34 Inv-loop μ-loop
-add-t34 c = let t = c .before .before .before .before .before .before .before .before .before .before .before .before .before in let s = t .before .before .before .before .before .before .before .before .before .before .before .before .before in let e = room-left (s .pre .1 .accepts) (t .before .before .before .before .before .loop .inv) (t .before .before .before .before .loop-test .taken) (t .step .ensures) (c .before .before .before .before .before .before .before .if2 .taken) in omega (arith, e, s .pre .4)
+add-t33 : tie.Need-add-t33 Inv-loop μ-loop
+add-t33 c = let t = c .before .before .before .before .before .before .before .before .before .before .before .before .before in let s = t .before .before .before .before .before .before .before .before .before .before .before .before .before in let e = room-left (s .pre .1 .accepts) (t .before .before .before .before .before .loop .inv) (t .before .before .before .before .loop-test .taken) (t .step .ensures) (c .before .before .before .before .before .before .before .if2 .taken) in omega (arith, e, s .pre .4)
 
 same-length : tie.Need-same-length Inv-loop μ-loop
 same-length c = let t = c .before .before .before .before .before .before .before .before .before .before .before .before .before in let s = t .before .before .before .before .before .before .before .before .before .before .before .before .before in c .before .before .close-frame .kept .0 ∙ room-left (s .pre .1 .accepts) (t .before .before .before .before .before .loop .inv) (t .before .before .before .before .loop-test .taken) (t .step .ensures) (c .before .before .before .before .before .before .before .if2 .taken) .2
@@ -78,7 +78,7 @@ run-accepted-spec =
     value-of-requires
     sub-close-frame
     close-frame-requires
-    add-t34
+    add-t33
     same-length
     returns
     same-length-2
