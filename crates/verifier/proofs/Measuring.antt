@@ -1,12 +1,12 @@
 -- Pass 3 as the code runs it: one instruction case by case, what comes to a start, one start, and the loop.
 use mathlib.Core.Bool.{Bool, true, false, cond}
-use mathlib.Core.List.{List, _∷_}
+use mathlib.Core.List.{List}
 use mathlib.Core.Path.{_≡_, refl, ap, sym, _∙_}
 use mathlib.Core.Logic.{_≢_}
 use Prim.Native.Nat.{ℕ, _+_, _≤_, _<_, max}
 use native.Mathlib.Omega.{arith}
 use native.Mathlib.Decide.{ℕ-discrete}
-use lib.ListN.{getD, length, set, replicate, length-set, length-replicate, getD-replicate}
+use lib.ListN.{getD, length, replicate, length-replicate, getD-replicate}
 use lib.Seq.{getD-set-same, getD-set-other}
 use lib.Dec.{leb}
 use borrow.Author.Tests.{eq-eqb, ne-eqb, le-leb, lt-leb, lt-ltb, le-ltb}
@@ -18,13 +18,12 @@ use Rattle.isa.specs.Walk.{one}
 use Rattle.isa.proofs.Promises.{known-low, from-end, from-next, start-in, start-next, start-zero}
 use Rattle.verifier.specs.Pass1.{Decodes}
 use Rattle.verifier.specs.Pass2.{Aims}
-use Rattle.verifier.specs.Pass3.{unreached, differing, joined, arrive, raise, atTarget, atNext, passOn, runsOff, fault3, longer, stopped, heightsAlong, heights0, distances0, pass3}
+use Rattle.verifier.specs.Pass3.{unreached, differing, joined, arrive, raise, atTarget, atNext, passOn, runsOff, fault3, stopped, heightsAlong, heights0, distances0, pass3}
 use Rattle.verifier.specs.Tables.{measureOf, Unmeasured, Passing, arrived, farther, Incoming, Halting, Effected, Told, Stepped, Turned}
 use Rattle.verifier.specs.declared.Measure.the-variants.{Fine, Fault as Measure·Fault}
 use Rattle.verifier.specs.declared.Flow.{Flow}
 use Rattle.verifier.specs.declared.Step.{Step}
 use Rattle.verifier.proofs.Decoded.{decodes-fits, decodes-known, aims-target}
-use Rattle.verifier.proofs.Scanning.{jumps-kind}
 use Rattle.verifier.proofs.Along.{along-nil, along-skip, along-pass, along-stop, fine, continues-true, joined-first, joined-same, joined-differing, longer-end, longer-other, AtCell, arrives, raises, if-length, if-kept, replicate-at, heights0-length, heights0-zero, heights0-other, distances0-length, distances0-at}
 
 module _ (e : List ℕ) (k : ℕ) where
