@@ -1,12 +1,12 @@
 -- Pass 3 as the code runs it: one instruction case by case, what comes to a start, one start, and the loop.
 use mathlib.Core.Bool.{Bool, true, false, cond}
-use mathlib.Core.List.{List, _∷_}
+use mathlib.Core.List.{List}
 use mathlib.Core.Path.{_≡_, refl, ap, sym, _∙_}
 use mathlib.Core.Logic.{_≢_}
 use Prim.Native.Nat.{ℕ, _+_, _≤_, _<_, max}
 use native.Mathlib.Omega.{arith}
 use native.Mathlib.Decide.{ℕ-discrete}
-use lib.ListN.{getD, length, set, replicate, length-set, length-replicate, getD-replicate}
+use lib.ListN.{getD, length, replicate, length-replicate, getD-replicate}
 use lib.Seq.{getD-set-same, getD-set-other}
 use lib.Dec.{leb}
 use borrow.Author.Tests.{eq-eqb, ne-eqb, le-leb, lt-leb, lt-ltb, le-ltb}
@@ -18,13 +18,12 @@ use Rattle.isa.specs.Walk.{one}
 use Rattle.isa.proofs.Promises.{known-low, from-end, from-next, start-in, start-next, start-zero}
 use Rattle.verifier.specs.Pass1.{Decodes}
 use Rattle.verifier.specs.Pass2.{Aims}
-use Rattle.verifier.specs.Pass3.{unreached, differing, joined, arrive, raise, atTarget, atNext, passOn, runsOff, fault3, longer, stopped, heightsAlong, heights0, distances0, pass3}
-use Rattle.verifier.specs.Tables.{measureOf, Unmeasured, Passing, arrived, farther, Incoming, Effected, Told, Stepped, Turned}
+use Rattle.verifier.specs.Pass3.{unreached, differing, joined, arrive, raise, atTarget, atNext, passOn, runsOff, fault3, stopped, heightsAlong, heights0, distances0, pass3}
+use Rattle.verifier.specs.Tables.{measureOf, Unmeasured, Passing, arrived, farther, Incoming, Halting, Effected, Told, Stepped, Turned}
 use Rattle.verifier.specs.declared.Measure.the-variants.{Fine, Fault as Measure·Fault}
 use Rattle.verifier.specs.declared.Flow.{Flow}
 use Rattle.verifier.specs.declared.Step.{Step}
 use Rattle.verifier.proofs.Decoded.{decodes-fits, decodes-known, aims-target}
-use Rattle.verifier.proofs.Scanning.{jumps-kind}
 use Rattle.verifier.proofs.Along.{along-nil, along-skip, along-pass, along-stop, fine, continues-true, joined-first, joined-same, joined-differing, longer-end, longer-other, AtCell, arrives, raises, if-length, if-kept, replicate-at, heights0-length, heights0-zero, heights0-other, distances0-length, distances0-at}
 
 module _ (e : List ℕ) (k : ℕ) where
@@ -134,29 +133,29 @@ module _ (e : List ℕ) (k h d g l : ℕ) {s : Step} {hs ds hs′ ds′ : List �
   }
 
   -- a goto passes nothing on
-  pub stepped-goto : kindAt e k ≡ kind-goto → Effected e k h d g l s → Told e k h d s hs ds hs′ ds′
-      → Stepped e k h d g l (record { fault = s .fault; height = unreached; distance = s .distance; greatest = s .greatest; longest = s .longest }) hs ds hs′ ds′
-  stepped-goto p x t = record {
-    number = x .number;
-    passed = λ z. let o = x .onward z in record {
-      height-is = rw p;
-      distance-is = o .distance-is;
-      greatest-is = o .greatest-is;
-      longest-is = o .longest-is ∙ sym (longer-other e k (d + 1) l (omega arith));
+  pub stepped-goto : {r : Step} → kindAt e k ≡ kind-goto → Effected e k h d g l s → Told e k h d s hs ds hs′ ds′ → Halting (s .fault) (s .distance) (s .greatest) l r
+      → Stepped e k h d g l r hs ds hs′ ds′
+  stepped-goto p x t m = record {
+    number = m .fault-is ∙ x .number;
+    passed = λ z. let o = x .onward (sym (m .fault-is) ∙ z) in record {
+      height-is = rw p (m .height-is);
+      distance-is = m .distance-is ∙ o .distance-is;
+      greatest-is = m .greatest-is ∙ o .greatest-is;
+      longest-is = m .longest-is ∙ sym (longer-other e k (d + 1) l (omega arith));
     };
-    told = record { heights-are = t .heights-are; distances-are = t .distances-are };
+    told = record { heights-are = λ z. t .heights-are (sym (m .fault-is) ∙ z); distances-are = λ z. t .distances-are (sym (m .fault-is) ∙ z) };
   }
 
 -- nor does an end, where a walk ends
-pub stepped-end : (e : List ℕ) (k h d g l : ℕ) {s : Step} (hs ds : List ℕ) (x : ℕ) → kindAt e k ≡ kind-end → Effected e k h d g l s → x ≡ max l (s .distance)
-    → Stepped e k h d g l (record { fault = s .fault; height = unreached; distance = s .distance; greatest = s .greatest; longest = x }) hs ds hs ds
-stepped-end e k h d g l hs ds x p f q = record {
-  number = f .number;
-  passed = λ z. let o = f .onward z in record {
-    height-is = rw p;
-    distance-is = o .distance-is;
-    greatest-is = o .greatest-is;
-    longest-is = q ∙ ap (max l) (o .distance-is) ∙ sym (longer-end e k (d + 1) l p);
+pub stepped-end : (e : List ℕ) (k h d g l : ℕ) {s r : Step} (hs ds : List ℕ) (x : ℕ) → kindAt e k ≡ kind-end → Effected e k h d g l s → x ≡ max l (s .distance)
+    → Halting (s .fault) (s .distance) (s .greatest) x r → Stepped e k h d g l r hs ds hs ds
+stepped-end e k h d g l hs ds x p f q m = record {
+  number = m .fault-is ∙ f .number;
+  passed = λ z. let o = f .onward (sym (m .fault-is) ∙ z) in record {
+    height-is = rw p (m .height-is);
+    distance-is = m .distance-is ∙ o .distance-is;
+    greatest-is = m .greatest-is ∙ o .greatest-is;
+    longest-is = m .longest-is ∙ q ∙ ap (max l) (o .distance-is) ∙ sym (longer-end e k (d + 1) l p);
   };
   told = told-none e k h d _ hs ds (omega arith) (omega arith);
 }
@@ -382,14 +381,14 @@ module _ {e : List ℕ} {i : ℕ} {hs ds : List ℕ} {h d g l : ℕ} (s : Measur
     pub measuring-turn : r .fault ≡ 0 → Measuring e (next e i) hs′ ds′ (r .height) (r .distance) (r .greatest) (r .longest)
     measuring-turn z =
         elim (ℕ-discrete (arrived (getD hs i 0) h) unreached) [
-          | yes p ↦ let q = t .skipped p in rw (q .0, q .1, q .2) (measuring-skip p)
+          | yes p ↦ let q = t .skipped p in let m = q .0 in rw (q .1, q .2, m .height-is, m .distance-is, m .greatest-is, m .longest-is) (measuring-skip p)
           | no p ↦ measuring-pass _ _ (s .heights-ahead .here n) (s .distances-ahead .here n) p (farther-low h (getD ds i 0) d i (s .low i) (s .near)) (t .stepped p) z
         ]
 
     pub measuring-fault : r .fault ≢ 0 → Measure·Fault (r .fault) i ≡ measureOf (pass3 one e)
     measuring-fault z =
         elim (ℕ-discrete (arrived (getD hs i 0) h) unreached) [
-          | yes p ↦ absurd (z (ap (λ (x : Step). x .fault) (t .skipped p .0)))
+          | yes p ↦ absurd (z (t .skipped p .0 .fault-is))
           | no p ↦ measuring-stop _ _ (s .heights-ahead .here n) (s .distances-ahead .here n) p (t .stepped p) z
         ]
 

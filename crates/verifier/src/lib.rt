@@ -82,7 +82,7 @@ pub fn verify_by(rows: &[[u8; 4]; 53], e: &[u8]) -> Answer
     verify_long(rows, e)
 }
 
-// Short expressions have short tables, which are soon cleared.
+// Short expressions have short tables, which are soon cleared. A height of 255: nothing comes there.
 fn verify_short(rows: &[[u8; 4]; 53], e: &[u8]) -> Answer
     requires { ⌜ (now rows ≡ table) × (1 ≤ length (now e)) × (length (now e) ≤ 128) ⌝ }
     ensures { λ r. ⌜ verdictOf r ≡ verdict (now (e .entry)) ⌝ }
@@ -101,6 +101,7 @@ fn verify_short(rows: &[[u8; 4]; 53], e: &[u8]) -> Answer
     )
 }
 
+// The others have tables for 1,024 bytes.
 fn verify_long(rows: &[[u8; 4]; 53], e: &[u8]) -> Answer
     requires { ⌜ (now rows ≡ table) × (1 ≤ length (now e)) × (length (now e) ≤ 1024) ⌝ }
     ensures { λ r. ⌜ verdictOf r ≡ verdict (now (e .entry)) ⌝ }

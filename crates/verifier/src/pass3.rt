@@ -5,14 +5,14 @@ ghost use mathlib.Core.Logic.{_≢_};
 ghost use mathlib.Core.List.{List};
 ghost use Prim.Native.Nat.{ℕ, _≤_, _<_, max};
 ghost use lib.ListN.{length, getD};
-ghost use Rattle.isa.specs.Classes.{«kind-pick», «kind-goto», «kind-if-goto», «kind-end»};
+ghost use Rattle.isa.specs.Classes.{«kind-pick», «kind-goto», «kind-if-goto»};
 ghost use Rattle.isa.specs.Decode.{kindAt, next as nextStart, needed as neededCells, left as leftCells};
 ghost use Rattle.isa.specs.Rows.{table};
 ghost use Rattle.isa.specs.Walk.{one};
 ghost use Rattle.verifier.specs.Pass1.{Decodes};
 ghost use Rattle.verifier.specs.Pass2.{Aims};
 ghost use Rattle.verifier.specs.Pass3.{unreached, differing, joined, arrive, raise, runsOff, pass3};
-ghost use Rattle.verifier.specs.Tables.{measureOf, Unmeasured, Incoming, Standing, Reached, Effected, Told, Stepped, Turned};
+ghost use Rattle.verifier.specs.Tables.{measureOf, Unmeasured, Incoming, Standing, Reached, Halting, Effected, Told, Stepped, Turned};
 use crate::Flow;
 use crate::Measure;
 use crate::Step;
@@ -88,53 +88,52 @@ fn incoming(at: usize, height: usize, distance: usize, heights: &[u8], distances
     }
 }
 
-// What an instruction that needs and leaves so many cells makes of the height with which it is reached, or its refusal.
-fn effect_by(
-    height: usize,
-    distance: usize,
-    needed: usize,
-    left: usize,
-    is_off: bool,
-    greatest: usize,
-    longest: usize,
-) -> Step
-    requires { ⌜ (height < 256) × (height ≢ differing) × (distance ≤ 1024) × (left < 512) ⌝ }
-    ensures { λ r. ⌜ ((e : List ℕ) (k : ℕ) → needed ≡ neededCells e k → left ≡ leftCells e k → «is_off» ≡ runsOff e k → Effected e k height distance greatest longest r) ⌝ }
+fn refused(number: u8) -> Step
+    ensures { λ r. ⌜ r .fault ≡ number ⌝ }
 {
-    if !Stack::has(height, needed) {
-        return Step {
-            fault: 9,
-            height,
-            distance,
-            greatest,
-            longest,
-        };
+    Step {
+        fault: number,
+        height: UNREACHED,
+        distance: 0,
+        greatest: 0,
+        longest: 0,
     }
-    let after = height - needed + left;
+}
+
+// The same, but nothing flows on.
+fn halted(s: Step, longest: usize) -> Step
+    ensures { λ r. ⌜ Halting (s .fault) (s .distance) (s .greatest) longest r ⌝ }
+{
+    Step {
+        fault: s.fault,
+        height: UNREACHED,
+        distance: s.distance,
+        greatest: s.greatest,
+        longest,
+    }
+}
+
+// What an instruction that needs and leaves so many cells makes of what it is reached with, or its refusal.
+fn effect_by(s: Step, needed: usize, left: usize, is_off: bool) -> Step
+    requires { ⌜ (s .height < 256) × (s .height ≢ differing) × (s .distance ≤ 1024) × (left < 512) ⌝ }
+    ensures { λ r. ⌜ ((e : List ℕ) (k : ℕ) → needed ≡ neededCells e k → left ≡ leftCells e k → «is_off» ≡ runsOff e k → Effected e k (s .height) (s .distance) (s .greatest) (s .longest) r) ⌝ }
+{
+    if !Stack::has(s.height, needed) {
+        return refused(9);
+    }
+    let after = s.height - needed + left;
     if !Stack::fits(after) {
-        return Step {
-            fault: 10,
-            height,
-            distance,
-            greatest,
-            longest,
-        };
+        return refused(10);
     }
     if is_off {
-        return Step {
-            fault: 11,
-            height,
-            distance,
-            greatest,
-            longest,
-        };
+        return refused(11);
     }
     Step {
         fault: 0,
         height: after,
-        distance: distance + 1,
-        greatest: greater(greatest, after),
-        longest,
+        distance: s.distance + 1,
+        greatest: greater(s.greatest, after),
+        longest: s.longest,
     }
 }
 
@@ -144,38 +143,20 @@ fn step_jump(
     is_off: bool,
     e: &[u8],
     at: usize,
-    height: usize,
-    distance: usize,
+    s: Step,
     heights: &mut [u8],
     distances: &mut [u16],
-    greatest: usize,
-    longest: usize,
 ) -> Step
-    requires { ⌜ Reached (now e) at height distance (now heights) (now distances) ⌝ ∗ ⌜ (kind-goto ≤ kindAt (now e) at) × (kindAt (now e) at ≤ kind-if-goto) × (needed ≡ neededCells (now e) at) × (0 ≡ leftCells (now e) at) × («is_off» ≡ runsOff (now e) at) ⌝ }
-    ensures { λ r. ⌜ Effected (now (e .entry)) at height distance greatest longest r × Told (now (e .entry)) at height distance r (now (heights .entry)) (now (distances .entry)) (now (heights .exit)) (now (distances .exit)) ⌝ }
+    requires { ⌜ Reached (now e) at (s .height) (s .distance) (now heights) (now distances) ⌝ ∗ ⌜ (kind-goto ≤ kindAt (now e) at) × (kindAt (now e) at ≤ kind-if-goto) × (needed ≡ neededCells (now e) at) × (0 ≡ leftCells (now e) at) × («is_off» ≡ runsOff (now e) at) ⌝ }
+    ensures { λ r. ⌜ Effected (now (e .entry)) at (s .height) (s .distance) (s .greatest) (s .longest) r × Told (now (e .entry)) at (s .height) (s .distance) r (now (heights .entry)) (now (distances .entry)) (now (heights .exit)) (now (distances .exit)) ⌝ }
 {
-    let s = effect_by(height, distance, needed, 0, is_off, greatest, longest);
-    if s.fault != 0 {
-        return s;
+    let after = effect_by(s, needed, 0, is_off);
+    if after.fault != 0 {
+        return after;
     }
     let target = isa::operand_at(e, at, 2) as usize;
-    arrive_at(target, s.height, s.distance, heights, distances);
-    s
-}
-
-// An end: nothing flows on from it, and the walks to it end.
-fn step_end(height: usize, distance: usize, greatest: usize, longest: usize) -> Step
-    requires { ⌜ (height < 256) × (height ≢ differing) × (distance ≤ 1024) ⌝ }
-    ensures { λ r. ⌜ ((e : List ℕ) (k : ℕ) (hs ds : List ℕ) → kindAt e k ≡ kind-end → Stepped e k height distance greatest longest r hs ds hs ds) ⌝ }
-{
-    let s = effect_by(height, distance, 0, 0, false, greatest, longest);
-    Step {
-        fault: s.fault,
-        height: UNREACHED,
-        distance: s.distance,
-        greatest: s.greatest,
-        longest: greater(longest, s.distance),
-    }
+    arrive_at(target, after.height, after.distance, heights, distances);
+    after
 }
 
 // A reached start whose instruction is pick, a jump or an end.
@@ -184,123 +165,81 @@ fn step_other(
     e: &[u8],
     at: usize,
     next: usize,
-    height: usize,
-    distance: usize,
+    s: Step,
     heights: &mut [u8],
     distances: &mut [u16],
-    greatest: usize,
-    longest: usize,
 ) -> Step
-    requires { ⌜ Reached (now e) at height distance (now heights) (now distances) ⌝ ∗ ⌜ (next ≡ nextStart (now e) at) × (kind ≡ kindAt (now e) at) × (kind-pick ≤ kind) ⌝ }
-    ensures { λ r. ⌜ Stepped (now (e .entry)) at height distance greatest longest r (now (heights .entry)) (now (distances .entry)) (now (heights .exit)) (now (distances .exit)) ⌝ }
+    requires { ⌜ Reached (now e) at (s .height) (s .distance) (now heights) (now distances) ⌝ ∗ ⌜ (next ≡ nextStart (now e) at) × (kind ≡ kindAt (now e) at) × (kind-pick ≤ kind) ⌝ }
+    ensures { λ r. ⌜ Stepped (now (e .entry)) at (s .height) (s .distance) (s .greatest) (s .longest) r (now (heights .entry)) (now (distances .entry)) (now (heights .exit)) (now (distances .exit)) ⌝ }
 {
     let is_off = e.len() <= next;
     if kind == isa::PICK {
         let n = isa::operand_at(e, at, 1) as usize;
-        return effect_by(height, distance, 1 + n, 2 + n, is_off, greatest, longest);
+        return effect_by(s, 1 + n, 2 + n, is_off);
     }
     if kind == isa::IF_GOTO {
-        return step_jump(
-            1,
-            is_off,
-            e,
-            at,
-            height,
-            distance,
-            heights,
-            distances,
-            greatest,
-            longest,
-        );
+        return step_jump(1, is_off, e, at, s, heights, distances);
     }
     if kind == isa::GOTO {
-        let s = step_jump(
-            0,
-            false,
-            e,
-            at,
-            height,
-            distance,
-            heights,
-            distances,
-            greatest,
-            longest,
-        );
-        return Step {
-            fault: s.fault,
-            height: UNREACHED,
-            distance: s.distance,
-            greatest: s.greatest,
-            longest: s.longest,
-        };
+        let after = step_jump(0, false, e, at, s, heights, distances);
+        return halted(after, s.longest);
     }
-    step_end(height, distance, greatest, longest)
+    let after = effect_by(s, 0, 0, false);
+    halted(after, greater(s.longest, after.distance))
 }
 
-// One start: what comes to it, and its refusal or what it passes on. Most instructions are followed by the next start and have no N on top
-// of their row.
+// A reached start. Most instructions are followed by the next start and have no N on top of their row.
+fn step_reached(
+    rows: &[[u8; 4]; 53],
+    opcode: u8,
+    e: &[u8],
+    at: usize,
+    next: usize,
+    s: Step,
+    heights: &mut [u8],
+    distances: &mut [u16],
+) -> Step
+    requires { ⌜ now rows ≡ table ⌝ ∗ ⌜ opcode ≡ getD (now e) at 0 ⌝ ∗ ⌜ Reached (now e) at (s .height) (s .distance) (now heights) (now distances) ⌝ ∗ ⌜ next ≡ nextStart (now e) at ⌝ }
+    ensures { λ r. ⌜ Stepped (now (e .entry)) at (s .height) (s .distance) (s .greatest) (s .longest) r (now (heights .entry)) (now (distances .entry)) (now (heights .exit)) (now (distances .exit)) ⌝ }
+{
+    let kind = isa::column(rows, opcode, 3);
+    if isa::PICK <= kind {
+        return step_other(kind, e, at, next, s, heights, distances);
+    }
+    let needed = wide(isa::column(rows, opcode, 1));
+    let left = wide(isa::column(rows, opcode, 2));
+    effect_by(s, needed, left, e.len() <= next)
+}
+
+// One start: what comes to it, and its refusal or what it passes on.
 fn step(
     rows: &[[u8; 4]; 53],
     opcode: u8,
     e: &[u8],
     at: usize,
     next: usize,
-    height: usize,
-    distance: usize,
+    s: Step,
     heights: &mut [u8],
     distances: &mut [u16],
-    greatest: usize,
-    longest: usize,
 ) -> Step
-    requires { ⌜ now rows ≡ table ⌝ ∗ ⌜ opcode ≡ getD (now e) at 0 ⌝ ∗ ⌜ Standing (now e) at height distance (now heights) (now distances) ⌝ ∗ ⌜ next ≡ nextStart (now e) at ⌝ }
-    ensures { λ r. ⌜ Turned (now (e .entry)) at (now (heights .entry)) (now (distances .entry)) height distance greatest longest r (now (heights .exit)) (now (distances .exit)) ⌝ }
+    requires { ⌜ now rows ≡ table ⌝ ∗ ⌜ opcode ≡ getD (now e) at 0 ⌝ ∗ ⌜ Standing (now e) at (s .height) (s .distance) (now heights) (now distances) ⌝ ∗ ⌜ (next ≡ nextStart (now e) at) × (s .fault ≡ 0) ⌝ }
+    ensures { λ r. ⌜ Turned (now (e .entry)) at (now (heights .entry)) (now (distances .entry)) (s .height) (s .distance) (s .greatest) (s .longest) r (now (heights .exit)) (now (distances .exit)) ⌝ }
 {
-    let flow = incoming(at, height, distance, heights, distances);
+    let flow = incoming(at, s.height, s.distance, heights, distances);
     if flow.height == UNREACHED {
-        return Step {
-            fault: 0,
-            height: UNREACHED,
-            distance,
-            greatest,
-            longest,
-        };
+        return halted(s, s.longest);
     }
     if flow.height == DIFFERING {
-        return Step {
-            fault: 8,
-            height,
-            distance,
-            greatest,
-            longest,
-        };
+        return refused(8);
     }
-    let kind = isa::column(rows, opcode, 3);
-    if kind < isa::PICK {
-        let needed = wide(isa::column(rows, opcode, 1));
-        let left = wide(isa::column(rows, opcode, 2));
-        let is_off = e.len() <= next;
-        return effect_by(
-            flow.height,
-            flow.distance,
-            needed,
-            left,
-            is_off,
-            greatest,
-            longest,
-        );
-    }
-    step_other(
-        kind,
-        e,
-        at,
-        next,
-        flow.height,
-        flow.distance,
-        heights,
-        distances,
-        greatest,
-        longest,
-    )
+    let here = Step {
+        fault: 0,
+        height: flow.height,
+        distance: flow.distance,
+        greatest: s.greatest,
+        longest: s.longest,
+    };
+    step_reached(rows, opcode, e, at, next, here, heights, distances)
 }
 
 pub fn measure(rows: &[[u8; 4]; 53], e: &[u8], heights: &mut [u8], distances: &mut [u16]) -> Measure
@@ -308,34 +247,21 @@ pub fn measure(rows: &[[u8; 4]; 53], e: &[u8], heights: &mut [u8], distances: &m
     ensures { λ r. ⌜ r ≡ measureOf (pass3 one (now (e .entry))) ⌝ }
 {
     let mut at = 0;
-    let mut height = 0;
-    let mut distance = 0;
-    let mut greatest = 0;
-    let mut longest = 0;
+    let mut s = Step {
+        fault: 0,
+        height: 0,
+        distance: 0,
+        greatest: 0,
+        longest: 0,
+    };
     while at < e.len() {
         let opcode = e[at];
         let next = at + 1 + wide(isa::column(rows, opcode, 0));
-        let s = step(
-            rows,
-            opcode,
-            e,
-            at,
-            next,
-            height,
-            distance,
-            heights,
-            distances,
-            greatest,
-            longest,
-        );
+        s = step(rows, opcode, e, at, next, s, heights, distances);
         if s.fault != 0 {
             return Measure::Fault(s.fault, at);
         }
-        height = s.height;
-        distance = s.distance;
-        greatest = s.greatest;
-        longest = s.longest;
         at = next;
     }
-    Measure::Fine(greatest as u8, longest)
+    Measure::Fine(s.greatest as u8, s.longest)
 }

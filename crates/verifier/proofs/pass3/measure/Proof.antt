@@ -8,15 +8,15 @@ use Rattle.verifier.proofs.pass3.measure.Statement.{statement}
 use Rattle.verifier.proofs.pass3.measure.Tie as tie
 
 abbrev Inv-loop : tie.InvT-loop
-Inv-loop rows e heights₀ distances₀ at₀ height₀ distance₀ greatest₀ longest₀ heights distances at height distance greatest longest =
-    Measuring e at heights distances height distance greatest longest × (length heights ≡ length heights₀) × (length distances ≡ length distances₀)
+Inv-loop rows e heights₀ distances₀ at₀ s₀ heights distances at s =
+    Measuring e at heights distances (s .height) (s .distance) (s .greatest) (s .longest) × (s .fault ≡ 0) × (length heights ≡ length heights₀) × (length distances ≡ length distances₀)
 
 abbrev μ-loop : tie.MeasureT-loop
-μ-loop rows e heights₀ distances₀ at₀ height₀ distance₀ greatest₀ longest₀ heights distances at height distance greatest longest = length e - at
+μ-loop rows e heights₀ distances₀ at₀ s₀ heights distances at s = length e - at
 
 loop-holds : tie.Need-loop-holds Inv-loop μ-loop
 loop-holds c =
-    let p = c .before .before .before .pre in (measuring-start _ _ _ (p .1) (p .2) (p .3) (p .4), refl, refl)
+    let p = c .before .before .before .pre in (measuring-start _ _ _ (p .1) (p .2) (p .3) (p .4), refl, refl, refl)
 
 shared-slice-read-opcode : tie.Need-shared-slice-read-opcode Inv-loop μ-loop
 shared-slice-read-opcode c = search needs
@@ -36,7 +36,7 @@ add-next-2 c = search needs
 
 step-requires : tie.Need-step-requires Inv-loop μ-loop
 step-requires c κs =
-    let s = c .before .before .before .before .before .before .loop .inv .0 in let k = c .before .before .before .before .before .before .loop .at in (c .before .before .before .before .before .before .before .before .before .before .pre .0, (refl, (record { passing = s .here (search needs); small = s .small; near = omega (arith, s .near, s .within, c .before .before .before .before .before .before .before .before .before .before .pre .1); low = omega (arith, s .low k, s .within, c .before .before .before .before .before .before .before .before .before .before .pre .1); untold = s .untold k (search needs); heights-long = s .heights-ahead .long; distances-long = s .distances-ahead .long }, omega (arith, c .before .before .wide .ensures .0, c .before .before .before .column .ensures))))
+    let s = c .before .before .before .before .before .before .loop .inv .0 in let k = c .before .before .before .before .before .before .loop .at in (c .before .before .before .before .before .before .before .before .before .before .pre .0, (refl, (record { passing = s .here (search needs); small = s .small; near = omega (arith, s .near, s .within, c .before .before .before .before .before .before .before .before .before .before .pre .1); low = omega (arith, s .low k, s .within, c .before .before .before .before .before .before .before .before .before .before .pre .1); untold = s .untold k (search needs); heights-long = s .heights-ahead .long; distances-long = s .distances-ahead .long }, (omega (arith, c .before .before .wide .ensures .0, c .before .before .before .column .ensures), c .before .before .before .before .before .before .loop .inv .1))))
 
 same-length : tie.Need-same-length Inv-loop μ-loop
 same-length c = search needs
@@ -53,10 +53,10 @@ loop-less c = search needs
 
 loop-again : tie.Need-loop-again Inv-loop μ-loop
 loop-again c =
-    (rw (c .before .before .before .before .before .before .before .before .before .wide .ensures .0, c .before .before .before .before .before .before .before .before .before .before .column .ensures) (measuring-turn (c .before .before .before .before .before .before .before .before .before .before .before .before .before .loop .inv .0) (search needs) (c .before .before .before .before .before .before .step .ensures) (omega arith)), search needs, search needs)
+    (rw (c .before .before .before .before .before .before .before .before .before .wide .ensures .0, c .before .before .before .before .before .before .before .before .before .before .column .ensures) (measuring-turn (c .before .before .before .before .before .before .before .before .before .before .before .before .before .loop .inv .0) (search needs) (c .before .before .before .before .before .before .step .ensures) (omega arith)), omega arith, search needs, search needs)
 
-cast-t22 : tie.Need-cast-t22 Inv-loop μ-loop
-cast-t22 c = record { fits = omega (arith, c .before .loop .inv .0 .top) }
+cast-t18 : tie.Need-cast-t18 Inv-loop μ-loop
+cast-t18 c = record { fits = omega (arith, c .before .before .loop .inv .0 .top) }
 
 same-length-3 : tie.Need-same-length-3 Inv-loop μ-loop
 same-length-3 c = search needs
@@ -65,7 +65,7 @@ same-length-4 : tie.Need-same-length-4 Inv-loop μ-loop
 same-length-4 c = search needs
 
 returns-2 : tie.Need-returns-2 Inv-loop μ-loop
-returns-2 c = measuring-end (c .before .loop .inv .0) (search needs)
+returns-2 c = measuring-end (c .before .before .loop .inv .0) (search needs)
 
 pub measure-spec : {M : Type 1} → statement M
 measure-spec =
@@ -85,7 +85,7 @@ measure-spec =
     returns
     loop-less
     loop-again
-    cast-t22
+    cast-t18
     same-length-3
     same-length-4
     returns-2)
