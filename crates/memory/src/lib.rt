@@ -184,7 +184,7 @@ fn has_zero(bytes: &[u8], at: usize, count: usize) -> bool
     found
 }
 
-// How many of the first `limit` bytes come in blocks of 8 that have no zero.
+// Passes blocks of 8 among the first `limit` bytes, up to one that has a zero, and answers how many bytes it has passed.
 fn before_zero(bytes: &[u8], limit: usize) -> usize
     requires { ⌜ limit ≤ length (now bytes) ⌝ }
     ensures { λ r. ⌜ Passed (now (bytes .entry)) limit r ⌝ }
