@@ -105,9 +105,14 @@ module _ (e : List ℕ) where
   unfolding isStart
   start-next k s l = from-then k l 0 s
 
-  pub start-apart : (i k : ℕ) → isStart e i ≡ true → isStart e k ≡ true → k < next e i → k ≤ i
+  start-apart : (i k : ℕ) → isStart e i ≡ true → isStart e k ≡ true → k < next e i → k ≤ i
   unfolding isStart
   start-apart i k s t l = from-apart i k l 0 s t
+
+  -- what holds of the starts before the start i, and of i, holds of those before the next
+  pub before-next : (P : ℕ → Type 0) (i : ℕ) → isStart e i ≡ true → ((k : ℕ) → k < i → isStart e k ≡ true → P k) → P i
+      → (k : ℕ) → k < next e i → isStart e k ≡ true → P k
+  before-next P i s b p k h t = cases k i (λ q. b k q t) (λ q. let z : i ≡ k = omega (arith, start-apart i k s t h) in rw z at p)
 
   pub start-zero : 0 < length e → isStart e 0 ≡ true
   unfolding isStart

@@ -100,8 +100,10 @@ module _ (e : List ℕ) where
   pub start-next : (k : ℕ) → isStart e k ≡ true → next e k < length e → isStart e (next e k) ≡ true
   start-next = following.start-next e
 
-  pub start-apart : (i k : ℕ) → isStart e i ≡ true → isStart e k ≡ true → k < next e i → k ≤ i
-  start-apart = following.start-apart e
+  -- what holds of the starts before the start i, and of i, holds of those before the next
+  pub before-next : (P : ℕ → Type 0) (i : ℕ) → isStart e i ≡ true → ((k : ℕ) → k < i → isStart e k ≡ true → P k) → P i
+      → (k : ℕ) → k < next e i → isStart e k ≡ true → P k
+  before-next = following.before-next e
 
 pub by-starts {ℓ} : (e : List ℕ) (P : ℕ → Type ℓ) → ((i : ℕ) → length e ≤ i → P i) → ((i : ℕ) → i < length e → P (next e i) → P i) → (i : ℕ) → P i
 by-starts = following.by-starts

@@ -2,14 +2,15 @@
 -- The definitions that it names are in specs/: Verdict (the answer), Acceptance (what it means), and in `isa` Walk.
 use mathlib.Core.List.{List, [], _∷_, _++_}
 use mathlib.Core.Path.{_≡_}
-use Prim.Native.Nat.{ℕ, _≤_}
+use Prim.Native.Nat.{ℕ, _≤_, _<_}
 use Rattle.isa.specs.Decode.{heightAfter}
 use Rattle.isa.specs.Walk.{After, Walk, stop}
-use Rattle.isa.proofs.Promises.{start-zero, walk-on}
+use Rattle.isa.proofs.Promises.{start-zero, walk-last, walk-on}
 use Rattle.verifier.specs.Pass3.{heaviest}
 use Rattle.verifier.specs.Verdict.{accepted, refused, verdict}
 use Rattle.verifier.specs.Acceptance.{WalksFit, Acceptable, Heaviest, Accepted, Ready, Broken, Means}
 use Rattle.verifier.proofs.Numbers as numbers
+use Rattle.verifier.proofs.Along.{after-later}
 use Rattle.verifier.proofs.Endings.{follows}
 use Rattle.verifier.proofs.Meaning.{verdict-means, fits-accepted, fits-heaviest, late-broken, walk-ready}
 
@@ -54,3 +55,7 @@ module _ (e : List ℕ) where
     -- whatever comes next is an instruction, so that the walk goes on
     pub goes-on : {w : List ℕ} {j u m : ℕ} → Walk e 0 0 w j u → After e j m → Walk e 0 0 (w ++ (m ∷ [])) m (heightAfter e j u)
     goes-on x t = walk-on x t (follows e (a .acceptable .walks) (a .acceptable .aims) x t)
+
+    -- and it stands after the instruction: no walk goes back
+    pub goes-forward : {w : List ℕ} {j u m : ℕ} → Walk e 0 0 w j u → After e j m → j < m
+    goes-forward x t = after-later (a .acceptable .aims) (walk-last x) t
