@@ -1,7 +1,9 @@
-// The command `frames`: lilivrez frames FILE [FRAME [RECORD]]. The file is the used part of a trace buffer.
+// The command `frames`: lilivrez frames FILE [FRAME [RECORD]], and lilivrez frames FILE --gdb OUT. The file is the used part of a
+// trace buffer.
 ghost use mathlib.Core.Path.{_≡_};
 ghost use Prim.Native.Nat.{ℕ, _≤_};
 ghost use lib.ListN.{length};
+use crate::gdb;
 use crate::show::print_frames;
 use crate::show::print_one_frame;
 use crate::show::print_one_record;
@@ -9,9 +11,10 @@ use output::print_error;
 use output::print_error_of;
 
 // ---- the words of the command
-// What is to be shown: all frames, a frame, or a record of a frame.
+// What is to be shown: all frames, a frame, or a record of a frame. Or all frames are to be written for GDB.
 enum Asked {
     All,
+    Export,
     Frame(u64),
     Record(u64, u64),
 }
@@ -90,10 +93,21 @@ fn number_at(i: usize) -> Number {
 }
 
 // ---- the file
+fn export(buffer: &[u8]) {
+    let mut name = io::buffer();
+    let n = os::arg(4, &mut name);
+    if os::errno() != 0 {
+        print_error(b"the name of OUT is too long");
+        return;
+    }
+    gdb::export(&name[..n], buffer);
+}
+
 fn show(buffer: &[u8], asked: Asked) {
     let used = buffer.len();
     match asked {
         Asked::All => print_frames(buffer, used),
+        Asked::Export => export(buffer),
         Asked::Frame(number) => print_one_frame(buffer, used, number),
         Asked::Record(number, index) => print_one_record(buffer, used, number, index),
     }
@@ -176,6 +190,20 @@ fn show_asked(count: usize) {
     }
 }
 
+fn is_export() -> bool {
+    let mut word = [0u8; 8];
+    let n = os::arg(3, &mut word);
+    check::same(&word[..n], b"--gdb")
+}
+
+fn show_export(count: usize) {
+    if count == 4 {
+        print_error(b"OUT is missing: write lilivrez frames FILE --gdb OUT");
+        return;
+    }
+    show_named(Asked::Export);
+}
+
 fn refuse_word(i: usize) {
     let mut word = io::buffer();
     let n = os::arg(i, &mut word);
@@ -194,6 +222,10 @@ pub fn run() {
     }
     if count == 3 {
         show_named(Asked::All);
+        return;
+    }
+    if is_export() {
+        show_export(count);
         return;
     }
     show_asked(count);

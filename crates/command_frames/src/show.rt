@@ -44,7 +44,7 @@ fn print_frame_line(buffer: &[u8], used: usize, number: u64) {
     print(&line[..n]);
 }
 
-fn records_of(buffer: &[u8], used: usize, number: u64) -> usize {
+pub fn records_of(buffer: &[u8], used: usize, number: u64) -> usize {
     match reader::count_records(buffer, used, number) {
         Count::Records(tracepoint, start, length, records) => records,
         Count::NoCount(refusal, offset) => 0,
@@ -73,7 +73,7 @@ fn walk_refusal(buffer: &[u8], used: usize, number: u64) -> u8 {
 }
 
 // The refusal of a frame; 0 where there is none.
-fn frame_refusal(buffer: &[u8], used: usize, number: u64) -> u8 {
+pub fn frame_refusal(buffer: &[u8], used: usize, number: u64) -> u8 {
     match reader::count_records(buffer, used, number) {
         Count::Records(tracepoint, start, length, records) => 0,
         Count::NoCount(refusal, offset) => refusal,
@@ -90,7 +90,7 @@ fn refused_in(buffer: &[u8], used: usize, number: u64) -> u64
     0
 }
 
-fn print_completed_frames(number: u64, refused: u64) {
+pub fn print_completed_frames(number: u64, refused: u64) {
     print_completed(number, b"frame", refused);
 }
 
