@@ -11,18 +11,24 @@ usage:
   lilivrez verify [--list] HEX          check the expression whose bytes are HEX
   lilivrez verify [--list] -            check expressions from standard input, one a line
   lilivrez verify [--list] --from-gdb   check a listing that GDB printed, from standard input
+  lilivrez frames FILE [FRAME [RECORD]] show the frames of a saved trace buffer
+  lilivrez frames FILE --gdb OUT        write them to OUT, as a trace file for GDB
   lilivrez help                         print this text
 
 HEX has two hexadecimal digits for each byte, upper or lower case. Blanks are allowed between
 bytes; on the command line put HEX in quotes then. --list prints the instructions too, as
 GDB's maint agent does, with the height of the stack before each where HEX was accepted.
 
+FILE holds the used part of a trace buffer. Frames are counted from the newest, 0, and the
+records of a frame from its first, 0.
+
 examples:
   lilivrez verify --list '22 05 22 03 02 27'
   gdb -batch -ex 'maint agent-eval 5+3' | lilivrez verify --from-gdb
 
-An answer begins with accepted or refused. What is wrong with the call itself is told in one
-line on standard error that begins with error. The exit status is always 0.
+An answer begins with accepted, refused or completed, and one about frames ends with refused
+or completed. What is wrong with the call itself is told in one line on standard error that
+begins with error. The exit status is always 0.
 ",
     );
 }
@@ -44,6 +50,10 @@ fn run_command(word: &[u8]) {
     }
     if check::same(word, b"verify") {
         command_verify::verify::run();
+        return;
+    }
+    if check::same(word, b"frames") {
+        command_frames::command::run();
         return;
     }
     print_error_of(word, b"unknown command: lilivrez help lists what there is");

@@ -5,16 +5,19 @@ use mathlib.Core.Path.{_≡_, refl, ap, _∙_}
 use Prim.Native.Nat.{ℕ, _+_, _^_, _<_}
 use lib.Dec.{T}
 use lib.ListN.{length, take, drop, getD}
+use Rattle.io.specs.Digits.{digits, Fewest}
+use Rattle.report.specs.Text.{Appends}
 use Rattle.isa.specs.Classes.{kind, classOf, kind-unsupported}
 use Rattle.isa.specs.Decode.{operandBytes}
 use Rattle.isa.specs.Starts.{starts}
+use Rattle.listing.specs.Numbers.{decimal}
 use Rattle.listing.specs.Text.{textOf, textAt, isInstruction}
 use Rattle.listing.specs.Line.{operandsOf, readLine, lineBytes}
 use Rattle.listing.specs.Listing.{listing, allInstructions, bytes, readLines, listingText, readText}
 use Rattle.listing.specs.declared.reading.Line.the-variants.{Instruction}
 use Rattle.listing.proofs.Inverse as inverse
 use Rattle.listing.proofs.Opcodes.{good-name}
-use Rattle.listing.proofs.Texting.{instructed}
+use Rattle.listing.proofs.Texting as texting
 
 -- the text of a supported instruction with an operand that fits is read back as it
 pub text-read-back : (at op v : ℕ) → at < 2 ^ 64 → kind-unsupported < kind (classOf op) → v < 256 ^ operandsOf op
@@ -24,7 +27,7 @@ text-read-back at op v h s f = inverse.line-back op (operandsOf op) v (good-name
 -- the text of an instruction of an expression is read back as its bytes
 pub instruction-read-back : (e : List ℕ) → ((j : ℕ) → getD e j 0 < 256) → (k : ℕ) → k < 2 ^ 64 → isInstruction e k ≡ true
     → lineBytes (readLine k (textAt e k)) ≡ take (1 + operandBytes e k) (drop k e)
-instruction-read-back e low k h i = ap lineBytes (inverse.instruction-back e low k (instructed e k i) h) ∙ inverse.instruction-bytes e low k (instructed e k i)
+instruction-read-back e low k h i = ap lineBytes (inverse.instruction-back e low k (texting.instructed e k i) h) ∙ inverse.instruction-bytes e low k (texting.instructed e k i)
 
 -- and the listing of an expression as the expression
 pub listing-read-back : (e : List ℕ) → ((j : ℕ) → getD e j 0 < 256) → length e < 2 ^ 64 → T (allInstructions e (starts e)) → readLines 0 (listing e) ≡ bytes e
@@ -34,3 +37,7 @@ listing-read-back e low h t = inverse.listing-back e low 0 h t
 -- as one text
 pub listing-text-read-back : (e : List ℕ) → ((j : ℕ) → getD e j 0 < 256) → length e < 2 ^ 64 → T (allInstructions e (starts e)) → readText (listingText e) ≡ bytes e
 listing-text-read-back e low h t = inverse.text-back e low h t
+
+-- a number, as `report::text::append_number` ensures it, is appended in decimal
+pub appends-number : {b b' : List ℕ} {n n' : ℕ} (v : ℕ) → ((k : ℕ) × Fewest 10 1 v k × Appends b n (digits 10 k v) b' n') → Appends b n (decimal v) b' n'
+appends-number v p = texting.appends-number v p

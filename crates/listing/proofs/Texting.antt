@@ -16,7 +16,7 @@ use Rattle.encoding.proofs.Promises.{written-length, no-true, cases}
 use Rattle.isa.specs.Classes.{kind-unsupported}
 use Rattle.isa.specs.Decode.{kindAt, operandBytes, operand, next}
 use Rattle.isa.proofs.Promises.{operands-most}
-use Rattle.report.proofs.Promises.{append-nil, append-assoc}
+use Rattle.report.proofs.Promises.{append-assoc, appends-same}
 use Rattle.listing.specs.Names.{nameOf}
 use Rattle.listing.specs.Numbers.{decimal, signed}
 use Rattle.listing.specs.Text.{aligned, operandText, textOf, textAt, isInstruction, writtenAnswer, writtenLeft}
@@ -24,16 +24,6 @@ use Rattle.listing.specs.declared.writing.Written.{Written}
 use Rattle.listing.specs.declared.writing.Written.the-variants.{Text as Written·text, NoInstruction, NoRoom}
 use Rattle.listing.proofs.Decimals.{fewest-decimal, decimal-some, decimal-most, decimal-least}
 use Rattle.listing.proofs.Opcodes.{good-name}
-
--- ---- appending s and then t is appending s ++ t
-pub appends-then : {b b' b'' : List ℕ} {n n' n'' : ℕ} (s t : List ℕ) → Appends b n s b' n' → Appends b' n' t b'' n'' → Appends b n (s ++ t) b'' n''
-appends-then {b'' = b''} {n'' = n''} s t p q l x = subst (Text b'' n'') (append-assoc l s t) (q (l ++ s) (p l x))
-
-pub appends-same : {b b' : List ℕ} {n n' : ℕ} (s t : List ℕ) → s ≡ t → Appends b n s b' n' → Appends b n t b' n'
-appends-same {b' = b'} {n' = n'} s t e p l x = subst (λ (m : List ℕ). Text b' n' (l ++ m)) e (p l x)
-
-pub appends-nothing : (b : List ℕ) (n : ℕ) → Appends b n [] b n
-appends-nothing b n l x = subst (Text b n) (sym (append-nil l)) x
 
 -- ---- a number, as `append_number` ensures it
 abbrev pub AppendsNumber : List ℕ → ℕ → ℕ → List ℕ → ℕ → Type 0
@@ -170,9 +160,6 @@ text-length e k i h v is w =
     )
 
 -- ---- `write_instruction`
-pub text-start : (b : List ℕ) → Text b 0 []
-text-start b = record { within = omega arith; most = omega arith; all = λ _. refl; same = refl }
-
 abbrev pub Writes : List ℕ → ℕ → List ℕ → Written → List ℕ → Type 0
 Writes e k o r o' = (r ≡ writtenAnswer e k o) × ((o' ≡ writtenLeft e k o) × ((n : ℕ) → r ≡ Written·text n → n ≤ length o'))
 

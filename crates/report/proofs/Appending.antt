@@ -15,6 +15,20 @@ use Rattle.report.proofs.Lists.{append-nil, append-assoc}
 pub counts : (n : ℕ) (xs : List ℕ) → n ≤ length xs → Counts n xs
 counts n xs h = (h, sym (length-take-le n xs h))
 
+-- ---- appending s and then t is appending s ++ t
+pub appends-then : {b b' b'' : List ℕ} {n n' n'' : ℕ} (s t : List ℕ) → Appends b n s b' n' → Appends b' n' t b'' n'' → Appends b n (s ++ t) b'' n''
+appends-then {b'' = b''} {n'' = n''} s t p q l x = subst (Text b'' n'') (append-assoc l s t) (q (l ++ s) (p l x))
+
+pub appends-same : {b b' : List ℕ} {n n' : ℕ} (s t : List ℕ) → s ≡ t → Appends b n s b' n' → Appends b n t b' n'
+appends-same {b' = b'} {n' = n'} s t e p l x = subst (λ (m : List ℕ). Text b' n' (l ++ m)) e (p l x)
+
+pub appends-nothing : (b : List ℕ) (n : ℕ) → Appends b n [] b n
+appends-nothing b n l x = subst (Text b n) (sym (append-nil l)) x
+
+-- no text yet
+pub text-start : (b : List ℕ) → Text b 0 []
+text-start b = record { within = omega arith; most = omega arith; all = λ _. refl; same = refl }
+
 -- ---- one byte more, and a buffer that is full
 
 module _ {b : List ℕ} {n : ℕ} {l : List ℕ} (t : Text b n l) where

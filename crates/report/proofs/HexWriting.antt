@@ -97,9 +97,23 @@ pair-back p b l h =
     let t = digit-back (b % 16) (mod-lt b (lit< tt)) in
     rw (s .0, s .1, le-ltb 15 (b / 16) (omega (arith, q)), t .1, le-ltb 15 (b % 16) (omega (arith, mod-lt b (lit< {m = 0} {n = 16} tt)))) (ap Byte q)
 
+pub nothing-read : (p room : ℕ) → readFrom p room [] ≡ record { bytes = []; end = whole }
+unfolding readFrom
+nothing-read p room = refl
+
+-- a blank is passed over; a byte is the first of those that are read
+pub blank-read : (p room : ℕ) (s : List ℕ) → readFrom p room (32 ∷ s) ≡ readFrom (p + 1) room s
+unfolding readFrom tokenOf isBlank
+blank-read p room [] = refl
+blank-read p room (d ∷ t) = refl
+
+pub pair-read : (p room b : ℕ) (s : List ℕ) → b < 256 → readFrom p (suc room) (pairOf b ++ s) ≡ after (b ∷ []) (readFrom (p + 2) room s)
+unfolding readFrom
+pair-read p room b s h = rw (pair-back p b s h)
+
 pub hex-back : (p room : ℕ) (l : List ℕ) → ((j : ℕ) → getD l j 0 < 256) → length l ≤ room → readFrom p room (hexOf l) ≡ record { bytes = l; end = whole }
-unfolding hexOf readFrom
-hex-back p room [] low h = refl
+unfolding hexOf
+hex-back p room [] low h = nothing-read p room
 hex-back p zero (b ∷ l) low h = absurd (omega (arith, h))
 hex-back p (suc room) (b ∷ l) low h =
-    rw (pair-back p b (hexOf l) (low 0)) (ap (after (b ∷ [])) (hex-back (p + 2) room l (λ j. low (suc j)) (omega (arith, h))))
+    pair-read p room b (hexOf l) (low 0) ∙ ap (after (b ∷ [])) (hex-back (p + 2) room l (λ j. low (suc j)) (omega (arith, h)))

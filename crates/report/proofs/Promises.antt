@@ -1,15 +1,27 @@
 -- What users of `report` may cite. The contracts of src/ are the rest.
-use Prim.Native.Nat.{ℕ, _≤_, _<_}
-use mathlib.Core.List.{List, [], _++_}
-use mathlib.Core.Path.{_≡_}
-use lib.ListN.{length, getD}
-use Rattle.report.specs.Hex.{whole, readingOf, hexOf}
-use Rattle.report.proofs.HexWriting.{hex-back}
+use Prim.Native.Nat.{ℕ, suc, _+_, _≤_, _<_}
+use mathlib.Core.List.{List, [], _∷_, _++_}
+use mathlib.Core.Path.{_≡_, refl, _∙_}
+use lib.ListN.{length, drop, getD}
+use Rattle.report.specs.Hex.{whole, after, readFrom, readingOf, pairOf, hexOf}
+use Rattle.report.specs.Text.{Text, Appends}
+use Rattle.report.proofs.Appending as appending
+use Rattle.report.proofs.HexWriting as writing
 use Rattle.report.proofs.Lists as lists
 
 -- bytes written in hexadecimal are read back, where there is room for them
 pub hex-read-back : (l : List ℕ) (room : ℕ) → ((j : ℕ) → getD l j 0 < 256) → length l ≤ room → readingOf (hexOf l) room ≡ record { bytes = l; end = whole }
-hex-read-back l room low h = hex-back 0 room l low h
+hex-read-back l room low h = writing.hex-back 0 room l low h
+
+-- of a text with blanks between the bytes: nothing, a blank, and a byte at its front
+pub nothing-read : (p room : ℕ) → readFrom p room [] ≡ record { bytes = []; end = whole }
+nothing-read = writing.nothing-read
+
+pub blank-read : (p room : ℕ) (s : List ℕ) → readFrom p room (32 ∷ s) ≡ readFrom (p + 1) room s
+blank-read = writing.blank-read
+
+pub pair-read : (p room b : ℕ) (s : List ℕ) → b < 256 → readFrom p (suc room) (pairOf b ++ s) ≡ after (b ∷ []) (readFrom (p + 2) room s)
+pair-read = writing.pair-read
 
 -- ---- texts put together
 pub append-nil : (l : List ℕ) → l ++ [] ≡ l
@@ -17,3 +29,47 @@ append-nil = lists.append-nil
 
 pub append-assoc : (a b c : List ℕ) → (a ++ b) ++ c ≡ a ++ (b ++ c)
 append-assoc = lists.append-assoc
+
+pub appends-then : {b b' b'' : List ℕ} {n n' n'' : ℕ} (s t : List ℕ) → Appends b n s b' n' → Appends b' n' t b'' n'' → Appends b n (s ++ t) b'' n''
+appends-then s t p q = appending.appends-then s t p q
+
+pub appends-same : {b b' : List ℕ} {n n' : ℕ} (s t : List ℕ) → s ≡ t → Appends b n s b' n' → Appends b n t b' n'
+appends-same s t e p = appending.appends-same s t e p
+
+pub appends-nothing : (b : List ℕ) (n : ℕ) → Appends b n [] b n
+appends-nothing = appending.appends-nothing
+
+pub text-start : (b : List ℕ) → Text b 0 []
+text-start = appending.text-start
+
+-- the parts of a text appended one after the other: `more (more (one s p) t q) u r .text`
+pub record Appended (b : List ℕ) (n : ℕ) (s b' : List ℕ) (n' : ℕ) : Type 0 where
+  pub text : Appends b n s b' n'
+
+pub one : {b b' : List ℕ} {n n' : ℕ} (s : List ℕ) → Appends b n s b' n' → Appended b n s b' n'
+one s p = record { text = p }
+
+pub more : {b b' b'' : List ℕ} {n n' n'' : ℕ} {s : List ℕ} → Appended b n s b' n' → (t : List ℕ) → Appends b' n' t b'' n'' → Appended b n (s ++ t) b'' n''
+more {s = s} p t q = record { text = appending.appends-then s t (p .text) q }
+
+-- ---- a loop that appends a text part by part: what is appended from here on is the rest of what is appended from the start on
+pub record Going (b₀ : List ℕ) (at : ℕ) (all rest b : List ℕ) (n : ℕ) : Type 0 where
+  pub size : length b ≡ length b₀
+  pub text : (b' : List ℕ) (n' : ℕ) → Appends b n rest b' n' → Appends b₀ at all b' n'
+
+pub going-start : (b : List ℕ) (at : ℕ) (all : List ℕ) → Going b at all all b at
+going-start b at all = record { size = refl; text = λ b' n' p. p }
+
+pub going-part : {b₀ : List ℕ} {at : ℕ} {all rest b : List ℕ} {n : ℕ} → Going b₀ at all rest b n → (s more : List ℕ) → s ++ more ≡ rest
+    → (b' : List ℕ) (n' : ℕ) → length b' ≡ length b → Appends b n s b' n' → Going b₀ at all more b' n'
+going-part {rest = rest} g s more e b' n' same p = record {
+  size = same ∙ g .size;
+  text = λ b'' n'' q. g .text b'' n'' (appending.appends-same (s ++ more) rest e (appending.appends-then s more p q));
+}
+
+pub going-end : {b₀ : List ℕ} {at : ℕ} {all rest b : List ℕ} {n : ℕ} → Going b₀ at all rest b n → [] ≡ rest → Appends b₀ at all b n
+going-end {rest = rest} {b} {n} g e = g .text b n (appending.appends-same [] rest e (appending.appends-nothing b n))
+
+-- no bytes are left behind the last
+pub drop-out : (n : ℕ) (l : List ℕ) → length l ≤ n → drop n l ≡ []
+drop-out = lists.drop-out

@@ -115,7 +115,8 @@ fn character(digit: u8) -> u8
     87 + digit
 }
 
-fn append_byte(out: &mut [u8], at: usize, byte: u8) -> usize
+// Appends a byte as two digits.
+pub fn append_byte(out: &mut [u8], at: usize, byte: u8) -> usize
     ensures count { λ r. ⌜ Counts r (now (out .exit)) ⌝ }
     ensures text { λ r. ⌜ Appends (now (out .entry)) at (pairOf byte) (now (out .exit)) r ⌝ }
 {

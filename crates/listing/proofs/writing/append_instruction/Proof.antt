@@ -8,7 +8,8 @@ use Rattle.listing.specs.Names.{nameOf}
 use Rattle.listing.specs.Numbers.{decimal}
 use Rattle.listing.specs.Text.{aligned, operandText}
 use Rattle.listing.proofs.Opcodes.{good-name}
-use Rattle.listing.proofs.Texting.{appends-then, appends-same, instructed, text-parts, text-length}
+use Rattle.report.proofs.Promises.{appends-then, appends-same}
+use Rattle.listing.proofs.Texting.{instructed, text-parts, text-length}
 use Rattle.listing.proofs.writing.append_instruction.Statement.{statement}
 use Rattle.listing.proofs.writing.append_instruction.Tie as tie
 

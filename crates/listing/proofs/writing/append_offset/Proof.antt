@@ -2,7 +2,8 @@ use borrow.Author.Needs.{needs}
 use Prim.Native.Nat.{ℕ}
 use mathlib.Core.List.{List, [], _∷_, _++_}
 use Rattle.listing.specs.Numbers.{decimal}
-use Rattle.listing.proofs.Texting.{appends-then, appends-same, appends-number, aligned-one, aligned-two, aligned-more}
+use Rattle.report.proofs.Promises.{appends-then, appends-same}
+use Rattle.listing.proofs.Texting.{appends-number, aligned-one, aligned-two, aligned-more}
 use Rattle.listing.proofs.writing.append_offset.Statement.{statement}
 use Rattle.listing.proofs.writing.append_offset.Tie as tie
 

@@ -3,7 +3,8 @@ use denote.Ref.{now}
 use Prim.Native.Nat.{ℕ}
 use mathlib.Core.List.{List, [], _∷_, _++_}
 use Rattle.listing.specs.Numbers.{signed}
-use Rattle.listing.proofs.Texting.{appends-then, appends-same, appends-nothing, operand-none, operand-some}
+use Rattle.report.proofs.Promises.{appends-then, appends-same, appends-nothing}
+use Rattle.listing.proofs.Texting.{operand-none, operand-some}
 use Rattle.listing.proofs.writing.append_operand.Statement.{statement}
 use Rattle.listing.proofs.writing.append_operand.Tie as tie
 

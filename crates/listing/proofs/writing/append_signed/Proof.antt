@@ -2,7 +2,8 @@ use borrow.Author.Needs.{needs}
 use Prim.Native.Nat.{ℕ, _+_, _-_}
 use mathlib.Core.List.{List, [], _∷_, _++_}
 use Rattle.listing.specs.Numbers.{decimal}
-use Rattle.listing.proofs.Texting.{appends-then, appends-same, appends-number, signed-low, signed-high}
+use Rattle.report.proofs.Promises.{appends-then, appends-same}
+use Rattle.listing.proofs.Texting.{appends-number, signed-low, signed-high}
 use native.Mathlib.Omega.{arith}
 use Rattle.listing.proofs.writing.append_signed.Statement.{statement}
 use Rattle.listing.proofs.writing.append_signed.Tie as tie

@@ -3,7 +3,8 @@ use denote.Ref.{now}
 use mathlib.Core.List.{[]}
 use mathlib.Core.Path.{sym, _∙_}
 use borrow.Author.Tests.{not-true, not-false}
-use Rattle.listing.proofs.Texting.{text-start, writes-none, writes-no-room, writes-text}
+use Rattle.report.proofs.Promises.{text-start}
+use Rattle.listing.proofs.Texting.{writes-none, writes-no-room, writes-text}
 use native.Mathlib.Omega.{arith}
 use Rattle.listing.proofs.writing.write_instruction.Statement.{statement}
 use Rattle.listing.proofs.writing.write_instruction.Tie as tie

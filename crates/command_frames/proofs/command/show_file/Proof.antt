@@ -1,0 +1,73 @@
+use borrow.Author.Needs.{needs}
+use native.Mathlib.Omega.{arith}
+use Rattle.command_frames.proofs.command.show_file.Statement.{statement}
+use Rattle.command_frames.proofs.command.show_file.Tie as tie
+
+slice-aggregate-read-file : tie.Need-slice-aggregate-read-file
+slice-aggregate-read-file c = search needs
+
+read-file-requires : tie.Need-read-file-requires
+read-file-requires c κs = search needs
+
+enum-known-n : tie.Need-enum-known-n
+enum-known-n c = search needs
+
+sub-show : tie.Need-sub-show
+sub-show c = search needs
+
+part-show-start : tie.Need-part-show-start
+part-show-start c = search needs
+
+part-show-end : tie.Need-part-show-end
+part-show-end c = omega (arith, c .before .before .before .before .before .read-file .ensures _ (c .before .before .n .given .1))
+
+show-requires : tie.Need-show-requires
+show-requires c κs = search needs
+
+enum-told : tie.Need-enum-told
+enum-told c = search needs
+
+slice-aggregate-print-error-of : tie.Need-slice-aggregate-print-error-of
+slice-aggregate-print-error-of c = search needs
+
+print-error-of-requires : tie.Need-print-error-of-requires
+print-error-of-requires c κs = search needs
+
+enum-told-2 : tie.Need-enum-told-2
+enum-told-2 c = search needs
+
+slice-aggregate-print-error-of-2 : tie.Need-slice-aggregate-print-error-of-2
+slice-aggregate-print-error-of-2 c = search needs
+
+print-error-of-requires-2 : tie.Need-print-error-of-requires-2
+print-error-of-requires-2 c κs = search needs
+
+returns : tie.Need-returns
+returns c = search needs
+
+returns-2 : tie.Need-returns-2
+returns-2 c = search needs
+
+returns-3 : tie.Need-returns-3
+returns-3 c = search needs
+
+pub show-file-spec : {M : Type 1} → statement M
+show-file-spec =
+    tie.close
+    (tie.spec
+    slice-aggregate-read-file
+    read-file-requires
+    enum-known-n
+    sub-show
+    part-show-start
+    part-show-end
+    show-requires
+    enum-told
+    slice-aggregate-print-error-of
+    print-error-of-requires
+    enum-told-2
+    slice-aggregate-print-error-of-2
+    print-error-of-requires-2
+    returns
+    returns-2
+    returns-3)

@@ -1,0 +1,45 @@
+use borrow.Author.Needs.{needs}
+use Prim.Native.Nat.{_≤_, _-_}
+use Rattle.command_frames.proofs.gdb.write_variables.Statement.{statement}
+use Rattle.command_frames.proofs.gdb.write_variables.Tie as tie
+
+abbrev Inv-loop : tie.InvT-loop
+Inv-loop fd number₀ number = number ≤ 64
+
+abbrev μ-loop : tie.MeasureT-loop
+μ-loop fd number₀ number = 64 - number
+
+loop-holds : tie.Need-loop-holds Inv-loop μ-loop
+loop-holds c = search needs
+
+write-variable-requires : tie.Need-write-variable-requires Inv-loop μ-loop
+write-variable-requires c κs = search needs
+
+returns : tie.Need-returns Inv-loop μ-loop
+returns c = search needs
+
+add-number : tie.Need-add-number Inv-loop μ-loop
+add-number c = search needs
+
+loop-less : tie.Need-loop-less Inv-loop μ-loop
+loop-less c = search needs
+
+loop-again : tie.Need-loop-again Inv-loop μ-loop
+loop-again c = search needs
+
+returns-2 : tie.Need-returns-2 Inv-loop μ-loop
+returns-2 c = search needs
+
+pub write-variables-spec : {M : Type 1} → statement M
+write-variables-spec =
+    tie.close
+    (tie.spec
+    Inv-loop
+    μ-loop
+    loop-holds
+    write-variable-requires
+    returns
+    add-number
+    loop-less
+    loop-again
+    returns-2)

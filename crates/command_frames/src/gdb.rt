@@ -1,0 +1,231 @@
+// lilivrez frames FILE --gdb OUT: the frames as a trace file for GDB's `target tfile`, written piece by piece.
+use crate::show::frame_refusal;
+use crate::show::print_completed_frames;
+use crate::show::print_frame;
+use crate::show::records_of;
+use libc::STDOUT_FILENO;
+use output::print;
+use output::print_error_of;
+use reader::Place;
+use reader::Reading;
+
+// ---- the pieces of the file
+fn write_start(fd: i32, frames: u64) -> bool {
+    let mut piece = [0u8; 160];
+    let n = tracefile::head::append_start(&mut piece, 0, frames);
+    io::write_all(fd, &piece[..n])
+}
+
+fn write_variable(fd: i32, number: u64) -> bool {
+    let mut piece = [0u8; 160];
+    let n = tracefile::head::append_variable(&mut piece, 0, number);
+    io::write_all(fd, &piece[..n])
+}
+
+fn write_variables(fd: i32) -> bool {
+    let mut number: u64 = 0;
+    while number < 64 {
+        if !write_variable(fd, number) {
+            return false;
+        }
+        number += 1;
+    }
+    true
+}
+
+fn write_tracepoint(fd: i32, buffer: &[u8], used: usize, number: u64) -> bool {
+    let mut piece = [0u8; 160];
+    let n = tracefile::head::append_tracepoint(&mut piece, 0, buffer, used, number);
+    io::write_all(fd, &piece[..n])
+}
+
+// One line a frame, the oldest first. GDB takes equal lines for one tracepoint.
+fn write_tracepoints(fd: i32, buffer: &[u8], used: usize, frames: u64) -> bool {
+    let mut left = frames;
+    while 0 < left {
+        left -= 1;
+        if !write_tracepoint(fd, buffer, used, left) {
+            return false;
+        }
+    }
+    true
+}
+
+fn write_target(fd: i32) -> bool {
+    let mut piece = [0u8; 160];
+    let n = tracefile::head::append_target(&mut piece, 0);
+    io::write_all(fd, &piece[..n])
+}
+
+fn write_opening(fd: i32, buffer: &[u8], used: usize, number: u64) -> bool {
+    let mut piece = [0u8; 160];
+    let n = tracefile::body::append_opening(&mut piece, 0, buffer, used, number);
+    io::write_all(fd, &piece[..n])
+}
+
+// A record has fewer bytes than the trace buffer that it is read from, so that it fits the piece.
+fn write_record(fd: i32, buffer: &[u8], used: usize, number: u64, index: u64) -> bool {
+    let mut piece = io::large_buffer();
+    let n = tracefile::body::append_record(&mut piece, 0, buffer, used, number, index);
+    io::write_all(fd, &piece[..n])
+}
+
+fn write_records(fd: i32, buffer: &[u8], used: usize, number: u64, records: usize) -> bool {
+    let mut index = 0;
+    while index < records {
+        if !write_record(fd, buffer, used, number, index as u64) {
+            return false;
+        }
+        index += 1;
+    }
+    true
+}
+
+fn write_frame(fd: i32, buffer: &[u8], used: usize, number: u64) -> bool {
+    if !write_opening(fd, buffer, used, number) {
+        return false;
+    }
+    write_records(fd, buffer, used, number, records_of(buffer, used, number))
+}
+
+fn write_frames(fd: i32, buffer: &[u8], used: usize, frames: u64) -> bool {
+    let mut left = frames;
+    while 0 < left {
+        left -= 1;
+        if !write_frame(fd, buffer, used, left) {
+            return false;
+        }
+    }
+    true
+}
+
+fn write_head(fd: i32, buffer: &[u8], used: usize, frames: u64) -> bool {
+    if !write_start(fd, frames) {
+        return false;
+    }
+    if !write_variables(fd) {
+        return false;
+    }
+    if !write_tracepoints(fd, buffer, used, frames) {
+        return false;
+    }
+    write_target(fd)
+}
+
+fn write_file(fd: i32, buffer: &[u8], used: usize, frames: u64) -> bool {
+    if !write_head(fd, buffer, used, frames) {
+        return false;
+    }
+    if !write_frames(fd, buffer, used, frames) {
+        return false;
+    }
+    io::write_all(fd, b"\x00\x00")
+}
+
+// ---- what cannot be carried over
+fn note(number: u64, what: &[u8]) {
+    print(b"note: frame ");
+    io::print_decimal(STDOUT_FILENO, number);
+    print(what);
+}
+
+fn note_tracepoint(buffer: &[u8], used: usize, number: u64) {
+    match reader::locate(buffer, used, number) {
+        Place::NoFrame(refusal, offset) => {
+            return;
+        }
+        Place::Frame(tracepoint, start, length) => {
+            if tracepoint == 0 {
+                note(
+                    number,
+                    b": GDB ends its list of frames before one of tracepoint 0\n",
+                );
+            }
+            if 32767 < tracepoint {
+                note(
+                    number,
+                    b": GDB shows a tracepoint number from 32768 on as negative\n",
+                );
+            }
+        }
+    }
+}
+
+fn note_record(buffer: &[u8], used: usize, number: u64, index: u64) {
+    match reader::read(buffer, used, number, index) {
+        Reading::NoReading(refusal, offset) => {
+            return;
+        }
+        Reading::Variable(tracepoint, variable, value) => {
+            return;
+        }
+        Reading::Memory(tracepoint, address, length, place) => {
+            if u64::MAX - address < length as u64 {
+                note(
+                    number,
+                    b": GDB cannot show a range that ends at the last address\n",
+                );
+            }
+        }
+    }
+}
+
+fn note_records(buffer: &[u8], used: usize, number: u64, records: usize) {
+    let mut index = 0;
+    while index < records {
+        note_record(buffer, used, number, index as u64);
+        index += 1;
+    }
+}
+
+fn note_frames(buffer: &[u8], used: usize, frames: u64) {
+    let mut number: u64 = 0;
+    while number < frames {
+        note_tracepoint(buffer, used, number);
+        note_records(buffer, used, number, records_of(buffer, used, number));
+        number += 1;
+    }
+}
+
+// ---- the command
+// The number of the first frame that is refused; where only 24 is met, the number of frames.
+fn first_refused(buffer: &[u8], used: usize) -> u64 {
+    let mut number: u64 = 0;
+    while number < 65536 {
+        if frame_refusal(buffer, used, number) != 0 {
+            return number;
+        }
+        number += 1;
+    }
+    number
+}
+
+fn write_named(name: &[u8], buffer: &[u8], used: usize, frames: u64) {
+    let fd = os::open_overwrite(name);
+    if fd < 0 {
+        print_error_of(name, b"the file cannot be written");
+        return;
+    }
+    let is_written = write_file(fd, buffer, used, frames);
+    libc::close(fd);
+    if !is_written {
+        print_error_of(name, b"the file cannot be written");
+        return;
+    }
+    print(
+        b"note: variables have numbers one higher in the file: $v0 is number 1, $v63 number 64\n",
+    );
+    note_frames(buffer, used, frames);
+    print_completed_frames(frames, 0);
+}
+
+// Nothing is written where a frame is refused: the refusal is the answer.
+pub fn export(name: &[u8], buffer: &[u8]) {
+    let used = buffer.len();
+    let number = first_refused(buffer, used);
+    if frame_refusal(buffer, used, number) != 24 {
+        print_frame(buffer, used, number);
+        return;
+    }
+    write_named(name, buffer, used, number);
+}

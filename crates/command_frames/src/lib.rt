@@ -1,0 +1,4 @@
+// The command `frames` of the tool: a saved trace buffer, shown, or written as a trace file for GDB.
+pub mod command;
+mod gdb;
+pub mod show;

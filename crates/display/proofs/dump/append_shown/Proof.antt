@@ -1,0 +1,64 @@
+-- The loop's invariant: the characters from place i on are left to append.
+use borrow.Author.Needs.{needs}
+use Prim.Native.Nat.{_+_, _-_}
+use mathlib.Core.List.{[], _∷_}
+use denote.Ref.{now}
+use lib.ListN.{length, drop}
+use Rattle.report.proofs.Promises.{Going, going-start, going-part, going-end}
+use Rattle.display.specs.Dump.{shown}
+use Rattle.display.proofs.Dumping.{shown-part, shown-end}
+use Rattle.display.proofs.dump.append_shown.Statement.{statement}
+use Rattle.display.proofs.dump.append_shown.Tie as tie
+
+abbrev Inv-loop : tie.InvT-loop
+Inv-loop out₀ at bytes n₀ i₀ out n i = Going out₀ at (shown bytes) (shown (drop i bytes)) out n
+
+abbrev μ-loop : tie.MeasureT-loop
+μ-loop out₀ at bytes n₀ i₀ out n i = length bytes - i
+
+loop-holds : tie.Need-loop-holds Inv-loop μ-loop
+loop-holds c = going-start _ _ _
+
+shared-slice-read-shown-byte : tie.Need-shared-slice-read-shown-byte Inv-loop μ-loop
+shared-slice-read-shown-byte c = search needs
+
+shown-byte-requires : tie.Need-shown-byte-requires Inv-loop μ-loop
+shown-byte-requires c κs = search needs
+
+slice-aggregate-append : tie.Need-slice-aggregate-append Inv-loop μ-loop
+slice-aggregate-append c = search needs
+
+append-requires : tie.Need-append-requires Inv-loop μ-loop
+append-requires c κs = search needs
+
+add-i : tie.Need-add-i Inv-loop μ-loop
+add-i c = search needs
+
+loop-less : tie.Need-loop-less Inv-loop μ-loop
+loop-less c = search needs
+
+loop-again : tie.Need-loop-again Inv-loop μ-loop
+loop-again c = let a = c .before .before .append in let l = now (c .before .before .before .before .before .before .before .before .before .before .before .args .bytes) in let i = c .before .before .before .before .before .before .before .before .loop .i in let s = c .before .before .before .before .before .shown-byte in going-part (c .before .before .before .before .before .before .before .before .loop .inv) (s .result ∷ []) (shown (drop (i + 1) l)) (shown-part l i (c .before .before .before .before .before .before .before .loop-test .taken) _ (s .ensures)) (a .last .0) (a .result) (a .kept .0) (a .ensures .1)
+
+same-length : tie.Need-same-length Inv-loop μ-loop
+same-length c = c .before .loop .inv .size
+
+returns : tie.Need-returns Inv-loop μ-loop
+returns c = going-end (c .before .loop .inv) (shown-end _ _ (c .loop-test .left))
+
+pub append-shown-spec : {M : Type 1} → statement M
+append-shown-spec =
+    tie.close
+    (tie.spec
+    Inv-loop
+    μ-loop
+    loop-holds
+    shared-slice-read-shown-byte
+    shown-byte-requires
+    slice-aggregate-append
+    append-requires
+    add-i
+    loop-less
+    loop-again
+    same-length
+    returns)

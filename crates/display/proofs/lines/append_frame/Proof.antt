@@ -1,0 +1,51 @@
+-- `display::lines::append_frame` meets its contract. Assumes nothing.
+use borrow.Author.Needs.{needs}
+use mathlib.Core.Path.{_≡_, sym, ap, _∙_}
+use Rattle.report.proofs.Promises.{appends-same}
+use Rattle.reader.specs.Answers.{countedOf}
+use Rattle.display.specs.Lines.{frameText}
+use Rattle.display.proofs.lines.append_frame.Statement.{statement}
+use Rattle.display.proofs.lines.append_frame.Tie as tie
+
+count-records-requires : tie.Need-count-records-requires
+count-records-requires c κs = search needs
+
+enum-known-tracepoint : tie.Need-enum-known-tracepoint
+enum-known-tracepoint c = search needs
+
+append-some-frame-requires : tie.Need-append-some-frame-requires
+append-some-frame-requires c κs = search needs
+
+enum-known-refusal : tie.Need-enum-known-refusal
+enum-known-refusal c = search needs
+
+append-no-frame-requires : tie.Need-append-no-frame-requires
+append-no-frame-requires c κs = search needs
+
+same-length : tie.Need-same-length
+same-length c = search needs
+
+returns : tie.Need-returns
+unfolding frameText
+returns c = let a = c .before .before .before .before .before .before .before .before .before .before .args in (c .before .before .append-some-frame .ensures .0, appends-same _ _ (ap (frameText (a .number)) (ap countedOf (sym (c .before .before .before .before .before .tracepoint .given .1)) ∙ c .before .before .before .before .before .before .before .count-records .ensures)) (c .before .before .append-some-frame .ensures .1))
+
+same-length-2 : tie.Need-same-length-2
+same-length-2 c = search needs
+
+returns-2 : tie.Need-returns-2
+unfolding frameText
+returns-2 c = let a = c .before .before .before .before .before .before .before .before .before .before .args in (c .before .before .append-no-frame .ensures .0, appends-same _ _ (ap (frameText (a .number)) (ap countedOf (sym (c .before .before .before .before .before .refusal .given .1)) ∙ c .before .before .before .before .before .before .before .count-records .ensures)) (c .before .before .append-no-frame .ensures .1))
+
+pub append-frame-spec : {M : Type 1} → statement M
+append-frame-spec =
+    tie.close
+    (tie.spec
+    count-records-requires
+    enum-known-tracepoint
+    append-some-frame-requires
+    enum-known-refusal
+    append-no-frame-requires
+    same-length
+    returns
+    same-length-2
+    returns-2)

@@ -1,0 +1,26 @@
+-- Counts, addresses and values as text.
+use Prim.Native.Nat.{ℕ}
+use mathlib.Core.Bool.{cond}
+use mathlib.Core.List.{List, [], _∷_, _++_}
+use lib.Dec.{eqb}
+use Rattle.io.specs.Digits.{digits}
+use Rattle.report.specs.Text.{bytesOf}
+use Rattle.listing.specs.Numbers.{decimal}
+
+-- `1 byte`, `2 bytes`: the word alone for one, with an s for every other number
+unfoldable pub countText : ℕ → List ℕ → List ℕ
+countText n word = cond (eqb n 1) (decimal n ++ bytesOf " " ++ word) (decimal n ++ bytesOf " " ++ word ++ bytesOf "s")
+
+-- 16 digits, with zeros in front
+unfoldable pub hexText : ℕ → List ℕ
+hexText v = digits 16 16 v
+
+-- without the zeros in front; the last digit stays
+unfoldable pub significant : List ℕ → List ℕ
+significant [] = []
+significant (c ∷ []) = c ∷ []
+significant (c ∷ d ∷ l) = cond (eqb c 48) (significant (d ∷ l)) (c ∷ d ∷ l)
+
+-- `DECIMAL (0xHEX)`
+unfoldable pub valueText : ℕ → List ℕ
+valueText v = decimal v ++ bytesOf " (0x" ++ significant (hexText v) ++ bytesOf ")"

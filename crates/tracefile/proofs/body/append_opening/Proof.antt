@@ -1,0 +1,64 @@
+-- `tracefile::body::append_opening` meets its contract. Assumes nothing.
+use borrow.Author.Needs.{needs}
+use mathlib.Core.Path.{_≡_, sym, ap, _∙_}
+use Rattle.report.proofs.Promises.{appends-same, one, more}
+use Rattle.encoding.specs.LittleEndian.{littleBytes}
+use Rattle.reader.specs.Answers.{countedOf}
+use Rattle.tracefile.specs.Frames.{openingBytes}
+use Rattle.tracefile.proofs.body.append_opening.Statement.{statement}
+use Rattle.tracefile.proofs.body.append_opening.Tie as tie
+
+count-records-requires : tie.Need-count-records-requires
+count-records-requires c κs = search needs
+
+enum-known-tracepoint : tie.Need-enum-known-tracepoint
+enum-known-tracepoint c = search needs
+
+cast-append-little : tie.Need-cast-append-little
+cast-append-little c = search needs
+
+append-little-requires : tie.Need-append-little-requires
+append-little-requires c κs = search needs
+
+append-little-requires-2 : tie.Need-append-little-requires-2
+append-little-requires-2 c κs = search needs
+
+enum-known-refusal : tie.Need-enum-known-refusal
+enum-known-refusal c = search needs
+
+slice-aggregate-append : tie.Need-slice-aggregate-append
+slice-aggregate-append c = search needs
+
+append-requires : tie.Need-append-requires
+append-requires c κs = search needs
+
+same-length : tie.Need-same-length
+same-length c = search needs
+
+returns : tie.Need-returns
+unfolding openingBytes
+returns c = let g = c .before .before .before .before .before .before .before .before .before .tracepoint .given .0 in (c .before .before .append-little2 .ensures .0, appends-same _ _ (ap openingBytes (ap countedOf (sym (c .before .before .before .before .before .before .before .before .before .tracepoint .given .1)) ∙ c .before .before .before .before .before .before .before .before .before .before .before .count-records .ensures)) ((more (one (littleBytes 2 (g .0)) (c .before .before .before .before .before .before .append-little .ensures .1)) (littleBytes 4 (g .1 .1 .0)) (c .before .before .append-little2 .ensures .1)) .text))
+
+same-length-2 : tie.Need-same-length-2
+same-length-2 c = search needs
+
+returns-2 : tie.Need-returns-2
+unfolding openingBytes
+returns-2 c = (c .before .before .append .ensures .0, appends-same _ _ (ap openingBytes (ap countedOf (sym (c .before .before .before .before .before .before .refusal .given .1)) ∙ c .before .before .before .before .before .before .before .before .count-records .ensures)) (c .before .before .append .ensures .1))
+
+pub append-opening-spec : {M : Type 1} → statement M
+append-opening-spec =
+    tie.close
+    (tie.spec
+    count-records-requires
+    enum-known-tracepoint
+    cast-append-little
+    append-little-requires
+    append-little-requires-2
+    enum-known-refusal
+    slice-aggregate-append
+    append-requires
+    same-length
+    returns
+    same-length-2
+    returns-2)

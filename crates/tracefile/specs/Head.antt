@@ -1,0 +1,33 @@
+-- The first part of GDB's trace file: lines of text, up to an empty one (the GDB manual, "Trace File Format").
+use Prim.Native.Nat.{ℕ, _+_}
+use mathlib.Core.List.{List, [], _∷_, _++_}
+use Rattle.report.specs.Hex.{hexOf}
+use Rattle.report.specs.Text.{bytesOf}
+use Rattle.listing.specs.Numbers.{decimal}
+use Rattle.display.specs.Numbers.{hexText}
+use Rattle.reader.specs.Located.{Located, frame, refused}
+
+-- the mark of the file; the size of a block of registers, which no frame has; and the state, with the number of frames
+unfoldable pub startText : ℕ → List ℕ
+startText frames =
+    (0x7f ∷ []) ++ bytesOf "TRACE0\nR 1\nstatus 0;tstop::0;tframes:" ++ hexText frames ++ bytesOf ":tcreated:" ++ hexText frames ++ bytesOf "\n"
+
+unfoldable pub nameText : ℕ → List ℕ
+nameText number = bytesOf "v" ++ decimal number
+
+-- a variable: its number in the file is one higher, since GDB cannot reach a variable 0; its name is v and its own number
+unfoldable pub variableText : ℕ → List ℕ
+variableText number = bytesOf "tsv " ++ hexText (number + 1) ++ bytesOf ":0:0:" ++ hexOf (nameText number) ++ bytesOf "\n"
+
+-- a tracepoint. Its address is not recorded: its number stands there, so that GDB tells tracepoints apart.
+unfoldable pub pointText : ℕ → List ℕ
+pointText tracepoint = bytesOf "tp T" ++ hexText tracepoint ++ bytesOf ":" ++ hexText tracepoint ++ bytesOf ":E:0:0\n"
+
+-- the tracepoint of a frame
+unfoldable pub tracepointText : Located → List ℕ
+tracepointText (frame tracepoint start long) = pointText tracepoint
+tracepointText (refused r k) = []
+
+-- the architecture, for addresses of 64 bits, and the empty line
+unfoldable pub targetText : List ℕ
+targetText = bytesOf "tdesc <?xml version='1.0'?>" ++ bytesOf "<target><architecture>i386:x86-64</architecture></target>\n\n"

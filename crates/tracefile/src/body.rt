@@ -1,0 +1,79 @@
+// The frames, in bytes.
+ghost use Prim.Native.Nat.{_≤_};
+ghost use Rattle.io.specs.Counts.{Counts};
+ghost use Rattle.report.specs.Text.{Appends};
+ghost use Rattle.encoding.specs.LittleEndian.{littleBytes};
+ghost use Rattle.frames.specs.Record.{memory, variable, encode};
+ghost use Rattle.reader.specs.Read.{reading, counting};
+ghost use Rattle.tracefile.specs.Frames.{recordBytes, openingBytes};
+use reader::Count;
+use reader::Reading;
+use report::text::append;
+
+fn append_little(out: &mut [u8], at: usize, value: u64, count: usize) -> usize
+    requires { ⌜ count ≤ 8 ⌝ }
+    ensures count { λ r. ⌜ Counts r (now (out .exit)) ⌝ }
+    ensures text { λ r. ⌜ Appends (now (out .entry)) at (littleBytes count value) (now (out .exit)) r ⌝ }
+{
+    let mut bytes = [0u8; 8];
+    encoding::put_little(&mut bytes, 0, value, count);
+    append(out, at, &bytes[0..count])
+}
+
+fn append_memory(out: &mut [u8], at: usize, address: u64, bytes: &[u8]) -> usize
+    ensures count { λ r. ⌜ Counts r (now (out .exit)) ⌝ }
+    ensures text { λ r. ⌜ Appends (now (out .entry)) at (encode (memory address (now (bytes .entry)))) (now (out .exit)) r ⌝ }
+{
+    let a = append(out, at, b"M");
+    let b = append_little(out, a, address, 8);
+    let c = append_little(out, b, bytes.len() as u64, 2);
+    append(out, c, bytes)
+}
+
+fn append_variable(out: &mut [u8], at: usize, number: u64, value: u64) -> usize
+    ensures count { λ r. ⌜ Counts r (now (out .exit)) ⌝ }
+    ensures text { λ r. ⌜ Appends (now (out .entry)) at (encode (variable number value)) (now (out .exit)) r ⌝ }
+{
+    let a = append(out, at, b"V");
+    let b = append_little(out, a, number, 4);
+    append_little(out, b, value, 8)
+}
+
+// Record `index` of frame `number`, as it stands in the file; nothing where there is none.
+pub fn append_record(
+    out: &mut [u8],
+    at: usize,
+    buffer: &[u8],
+    used: usize,
+    number: u64,
+    index: u64,
+) -> usize
+    ensures count { λ r. ⌜ Counts r (now (out .exit)) ⌝ }
+    ensures text { λ r. ⌜ Appends (now (out .entry)) at (recordBytes (now (buffer .entry)) (reading (now (buffer .entry)) used number index)) (now (out .exit)) r ⌝ }
+{
+    match reader::read(buffer, used, number, index) {
+        Reading::NoReading(refusal, offset) => append(out, at, b""),
+        Reading::Variable(tracepoint, variable, value) => {
+            let next = std::num::wrapping_add_u64(variable, 1);
+            append_variable(out, at, next, value)
+        }
+        Reading::Memory(tracepoint, address, length, place) => {
+            let end = place + length;
+            append_memory(out, at, address, &buffer[place..end])
+        }
+    }
+}
+
+// The first 6 bytes of frame `number`; nothing where it is refused.
+pub fn append_opening(out: &mut [u8], at: usize, buffer: &[u8], used: usize, number: u64) -> usize
+    ensures count { λ r. ⌜ Counts r (now (out .exit)) ⌝ }
+    ensures text { λ r. ⌜ Appends (now (out .entry)) at (openingBytes (counting (now (buffer .entry)) used number)) (now (out .exit)) r ⌝ }
+{
+    match reader::count_records(buffer, used, number) {
+        Count::Records(tracepoint, start, length, records) => {
+            let a = append_little(out, at, tracepoint as u64, 2);
+            append_little(out, a, length as u64, 4)
+        }
+        Count::NoCount(refusal, offset) => append(out, at, b""),
+    }
+}
