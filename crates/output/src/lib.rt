@@ -1,0 +1,47 @@
+// What the commands print: answers on standard output; an error on standard error, in one line.
+use libc::STDERR_FILENO;
+use libc::STDOUT_FILENO;
+
+pub fn print(text: &[u8]) {
+    io::write_all(STDOUT_FILENO, text);
+}
+
+fn print_aside(text: &[u8]) {
+    io::write_all(STDERR_FILENO, text);
+}
+
+// error: WHY
+pub fn print_error(why: &[u8]) {
+    print_aside(b"error: ");
+    print_aside(why);
+    print_aside(b"\n");
+}
+
+// error: NAME: WHY
+pub fn print_error_of(name: &[u8], why: &[u8]) {
+    print_aside(b"error: ");
+    print_aside(name);
+    print_aside(b": ");
+    print_aside(why);
+    print_aside(b"\n");
+}
+
+fn print_place(word: &[u8], number: u64) {
+    print_aside(word);
+    io::print_decimal(STDERR_FILENO, number);
+}
+
+// error: NAME, line N, column M: WHY. Both are counted from 1; where one is 0 it is left out.
+pub fn print_error_at(name: &[u8], line: u64, column: u64, why: &[u8]) {
+    print_aside(b"error: ");
+    print_aside(name);
+    if line != 0 {
+        print_place(b", line ", line);
+    }
+    if column != 0 {
+        print_place(b", column ", column);
+    }
+    print_aside(b": ");
+    print_aside(why);
+    print_aside(b"\n");
+}
