@@ -46,6 +46,10 @@ fn run_command(word: &[u8]) {
         command_verify::verify::run();
         return;
     }
+    if check::same(word, b"run") {
+        command_run::run::run();
+        return;
+    }
     print_error_of(word, b"unknown command: lilivrez help lists what there is");
 }
 
