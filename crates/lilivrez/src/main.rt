@@ -11,18 +11,46 @@ usage:
   lilivrez verify [--list] HEX          check the expression whose bytes are HEX
   lilivrez verify [--list] -            check expressions from standard input, one a line
   lilivrez verify [--list] --from-gdb   check a listing that GDB printed, from standard input
+  lilivrez run FILE                     run the expressions of the scenario FILE
   lilivrez help                         print this text
 
 HEX has two hexadecimal digits for each byte, upper or lower case. Blanks are allowed between
 bytes; on the command line put HEX in quotes then. --list prints the instructions too, as
 GDB's maint agent does, with the height of the stack before each where HEX was accepted.
 
-examples:
+",
+    );
+    print_scenario();
+    print_end();
+}
+
+// The form of a scenario.
+fn print_scenario() {
+    print(
+        b"A scenario has one item a line, and # starts a comment. What is set stays set for later runs.
+  image ADDRESS bytes HEX     the program image; or image ADDRESS file NAME
+  memory ADDRESS bytes HEX    the working memory; or memory ADDRESS file NAME
+  register NUMBER VALUE       lends the registers up to this one; registers COUNT lends so many
+  variable NUMBER VALUE       a trace state variable, 0 to 63
+  tracepoint NUMBER           0 to 65535
+  buffer SIZE                 an empty trace buffer of up to 65536 bytes
+  allowance STEPS             for each run; or allowance default
+  run HEX                     runs an expression
+  load NAME, save NAME        the used part of the trace buffer, from a file or to one
+Numbers are decimal, or hexadecimal with 0x in front.
+
+",
+    );
+}
+
+fn print_end() {
+    print(
+        b"examples:
   lilivrez verify --list '22 05 22 03 02 27'
   gdb -batch -ex 'maint agent-eval 5+3' | lilivrez verify --from-gdb
 
-An answer begins with accepted or refused. What is wrong with the call itself is told in one
-line on standard error that begins with error. The exit status is always 0.
+An answer begins with accepted, refused or completed. What is wrong with the call itself is told
+in one line on standard error that begins with error. The exit status is always 0.
 ",
     );
 }
