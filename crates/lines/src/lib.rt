@@ -1,24 +1,33 @@
-// Lines of standard input, one at a time. The caller lends a buffer for what is read and one for the
-// line, and hands each answer back with the next call.
+// Lines of standard input, or of an open file, one at a time. The caller lends a buffer for what is read
+// and one for the line, and hands each answer back with the next call.
 use libc::STDIN_FILENO;
 
 // The line's length: one more than its buffer's where it is longer, whatever follows. What is read
-// and not yet taken lies from `from` to `to`. At the end of the input there is no line.
+// and not yet taken lies from `from` to `to`. At the end of the input there is no line; `is_failed`
+// says that a read failed there.
 pub struct Line {
+    pub fd: i32,
     pub len: usize,
     pub from: usize,
     pub to: usize,
     pub is_line: bool,
+    pub is_failed: bool,
 }
 
-// Before the first line nothing is read.
-pub fn start() -> Line {
+// Before the first line of an open file nothing is read.
+pub fn start_of(fd: i32) -> Line {
     Line {
+        fd,
         len: 0,
         from: 0,
         to: 0,
         is_line: false,
+        is_failed: false,
     }
+}
+
+pub fn start() -> Line {
+    start_of(STDIN_FILENO)
 }
 
 // One character more.
@@ -60,12 +69,6 @@ fn take_some(text: &mut [u8], first: usize, input: &[u8], from: usize) -> Taken 
     }
 }
 
-// One read, and how many bytes it has put at the front; 0 at the end of the input.
-fn fill(input: &mut [u8]) -> usize {
-    let got = libc::read(STDIN_FILENO, input);
-    io::count(got, input)
-}
-
 // What is read and lies before `to`.
 fn filled<'a>(input: &'a [u8], to: usize) -> &'a [u8] {
     if input.len() < to {
@@ -75,17 +78,20 @@ fn filled<'a>(input: &'a [u8], to: usize) -> &'a [u8] {
 }
 
 // At the end of the input: what follows the last line end, where something does.
-fn last(len: usize) -> Line {
+fn last(fd: i32, len: usize, is_failed: bool) -> Line {
     Line {
+        fd,
         len,
         from: 0,
         to: 0,
         is_line: 0 < len,
+        is_failed,
     }
 }
 
 // The next line; a last one with no line end counts too. The count of turns is there for the proof that the loop ends; no input uses it up.
 pub fn next(input: &mut [u8], text: &mut [u8], before: Line) -> Line {
+    let fd = before.fd;
     let mut len = 0;
     let mut from = before.from;
     let mut to = before.to;
@@ -95,18 +101,21 @@ pub fn next(input: &mut [u8], text: &mut [u8], before: Line) -> Line {
         len = taken.len;
         if taken.is_ended {
             return Line {
+                fd,
                 len,
                 from: taken.from,
                 to,
                 is_line: true,
+                is_failed: false,
             };
         }
         from = 0;
-        to = fill(input);
+        let got = libc::read(fd, input);
+        to = io::count(got, input);
         if to == 0 {
-            return last(len);
+            return last(fd, len, got < 0);
         }
         turns -= 1;
     }
-    last(len)
+    last(fd, len, false)
 }

@@ -6,13 +6,15 @@ use native.Mathlib.Omega.{arith}
 use mathlib.Core.Bool.{true}
 use mathlib.Core.List.{List, [], _∷_, _++_}
 use mathlib.Core.Path.{_≡_, refl, sym, ap, _∙_}
-use lib.Dec.{T, lit<, le→leb}
+use lib.Dec.{T, lit<}
 use lib.ListN.{length, length-append}
 use borrow.Author.Tests.{lt-ltb, le-ltb, le-leb}
 use Rattle.io.specs.Digits.{digits, Fewest, glyph}
 use Rattle.encoding.proofs.Promises.{cases}
-use Rattle.listing.specs.Numbers.{decimalBy, decimal, valueFrom, isDigit}
-use Rattle.listing.proofs.Leading.{all, all-append, both}
+use Rattle.report.specs.Hex.{digitOf}
+use Rattle.words.specs.Numbers.{isDigit, valueFrom}
+use Rattle.words.proofs.Leading.{all, all-append, both}
+use Rattle.listing.specs.Numbers.{decimalBy, decimal}
 
 -- ---- one digit, or the digits before the last and the last
 module _ (f n : ℕ) where
@@ -25,46 +27,45 @@ module _ (f n : ℕ) where
   more-digits h = rw (le-ltb n 10 h)
 
 -- ---- their value
-pub value-append : (v : ℕ) (a b : List ℕ) → valueFrom v (a ++ b) ≡ valueFrom (valueFrom v a) b
+value-append : (v : ℕ) (a b : List ℕ) → valueFrom 10 v (a ++ b) ≡ valueFrom 10 (valueFrom 10 v a) b
 unfolding valueFrom
 value-append v [] b = refl
-value-append v (c ∷ a) b = value-append (v * 10 + (c - 48)) a b
+value-append v (c ∷ a) b = value-append (v * 10 + digitOf c) a b
 
-pub value-least : (v : ℕ) (l : List ℕ) → v ≤ valueFrom v l
+digit-value : (d : ℕ) → d < 10 → digitOf (48 + d) ≡ d
+unfolding digitOf
+digit-value d h = rw (le-leb 48 (48 + d) (omega arith), le-leb (48 + d) 57 (omega arith)) (omega arith)
+
+value-last : (v d : ℕ) → d < 10 → valueFrom 10 v ((48 + d) ∷ []) ≡ v * 10 + d
 unfolding valueFrom
-value-least v [] = omega arith
-value-least v (c ∷ l) = omega (arith, value-least (v * 10 + (c - 48)) l)
+value-last v d h = ap (λ (x : ℕ). v * 10 + x) (digit-value d h)
 
-value-last : (v d : ℕ) → valueFrom v ((48 + d) ∷ []) ≡ v * 10 + d
-unfolding valueFrom
-value-last v d = omega arith
-
-value-by : (f n : ℕ) → n < f → valueFrom 0 (decimalBy f n) ≡ n
+value-by : (f n : ℕ) → n < f → valueFrom 10 0 (decimalBy f n) ≡ n
 value-by zero n h = absurd (not-suc-le-zero h)
 value-by (suc f) n h =
     cases n 10
-    (λ l. ap (valueFrom 0) (one-digit f n l) ∙ value-last 0 n ∙ omega arith)
+    (λ l. ap (valueFrom 10 0) (one-digit f n l) ∙ value-last 0 n l ∙ omega arith)
     (λ g.
     let q = div-add-mod' n 10 in
-    ap (valueFrom 0) (more-digits f n g)
+    ap (valueFrom 10 0) (more-digits f n g)
     ∙ value-append 0 (decimalBy f (n / 10)) ((48 + n % 10) ∷ [])
-    ∙ value-last (valueFrom 0 (decimalBy f (n / 10))) (n % 10)
+    ∙ value-last (valueFrom 10 0 (decimalBy f (n / 10))) (n % 10) (mod-lt n (lit< tt))
     ∙ ap (λ (x : ℕ). x * 10 + n % 10) (value-by f (n / 10) (omega (arith, q)))
     ∙ q)
 
-pub decimal-value : (n : ℕ) → valueFrom 0 (decimal n) ≡ n
+pub decimal-value : (n : ℕ) → valueFrom 10 0 (decimal n) ≡ n
 unfolding decimal
 decimal-value n = value-by (n + 1) n (omega arith)
 
 -- ---- they are digits, one or more
-digit-is : (d : ℕ) → d < 10 → T (isDigit (48 + d))
+digit-is : (d : ℕ) → d < 10 → T (isDigit 10 (48 + d))
 unfolding isDigit
-digit-is d h = rw (le-leb 48 (48 + d) (omega arith)) (le→leb (48 + d) 57 (omega arith))
+digit-is d h = rw (digit-value d h, lt-ltb d 10 h) tt
 
-one : (c : ℕ) → T (isDigit c) → T (all isDigit (c ∷ []))
-one c t = both (isDigit c) true t tt
+one : (c : ℕ) → T (isDigit 10 c) → T (all (isDigit 10) (c ∷ []))
+one c t = both (isDigit 10 c) true t tt
 
-digits-by : (f n : ℕ) → T (all isDigit (decimalBy f n))
+digits-by : (f n : ℕ) → T (all (isDigit 10) (decimalBy f n))
 unfolding decimalBy
 digits-by zero n = tt
 digits-by (suc f) n =
@@ -72,9 +73,9 @@ digits-by (suc f) n =
     (λ l. rw (one-digit f n l) (one (48 + n) (digit-is n l)))
     (λ g.
     rw (more-digits f n g)
-    (all-append isDigit (decimalBy f (n / 10)) ((48 + n % 10) ∷ []) (digits-by f (n / 10)) (one (48 + n % 10) (digit-is (n % 10) (mod-lt n (lit< tt))))))
+    (all-append (isDigit 10) (decimalBy f (n / 10)) ((48 + n % 10) ∷ []) (digits-by f (n / 10)) (one (48 + n % 10) (digit-is (n % 10) (mod-lt n (lit< tt))))))
 
-pub decimal-digits : (n : ℕ) → T (all isDigit (decimal n))
+pub decimal-digits : (n : ℕ) → T (all (isDigit 10) (decimal n))
 unfolding decimal
 decimal-digits n = digits-by (n + 1) n
 

@@ -18,27 +18,29 @@ use Rattle.isa.specs.Starts.{startsFrom}
 use Rattle.isa.proofs.Promises.{operands-most, by-starts, from-end, from-next}
 use Rattle.report.proofs.Promises.{append-nil, append-assoc}
 use Rattle.listing.specs.Names.{nameOf, opcodeOf}
-use Rattle.listing.specs.Numbers.{decimal, signed, leading, isDigit, limited, unsignedOf, negated, numberOf}
-use Rattle.listing.specs.Words.{isInWord, Word, firstWord, behind}
+use Rattle.words.specs.Words.{leading, isInWord, Word, firstWord, behind}
+use Rattle.words.specs.Numbers.{isDigit, limited, numberIn}
+use Rattle.words.specs.declared.numbers.Number.the-variants.{Value}
+use Rattle.words.proofs.Leading.{truth, all, stops, both, all-append, all-leading}
+use Rattle.words.proofs.Numbering.{limited-value, unsigned-all}
+use Rattle.words.proofs.Wording.{first-word, last-blanks}
+use Rattle.listing.specs.Numbers.{decimal, signed, negated, signedOf}
 use Rattle.listing.specs.Text.{aligned, operandText, textOf, textAt, isInstruction}
 use Rattle.listing.specs.Line.{operandsOf, byWord, ended, byNumber, operandBy, fromOperand, byOpcode, nameBy, fromName, byOffset, lineBy, readLine, lineBytes}
 use Rattle.listing.specs.Listing.{listingFrom, listing, allInstructions, bytes, afterBytes, thenLines, readLines, joined, onto, linesOf, listingText, readText}
-use Rattle.listing.specs.declared.numbers.Number.the-variants.{Value}
 use Rattle.listing.specs.declared.reading.Line.{Line}
 use Rattle.listing.specs.declared.reading.Line.the-variants.{Instruction}
 use Rattle.listing.proofs.BigBytes.{length-big, bytes-of-big}
 use Rattle.listing.proofs.Decimals.{decimal-value, decimal-digits, decimal-some}
-use Rattle.listing.proofs.Leading.{truth, all, stops, both, all-append, all-leading}
-use Rattle.listing.proofs.Numbering.{digit-range, limited-value, unsigned-all, negated-value, signed-minus, signed-plain}
+use Rattle.listing.proofs.Numbering.{digit-range, negated-value, signed-minus, signed-plain}
 use Rattle.listing.proofs.Opcodes.{GoodName, good-name}
 use Rattle.listing.proofs.Texting.{signed-low, signed-high, operand-none, operand-some, Instructed, instructed, text-parts}
-use Rattle.listing.proofs.Wording.{first-word, last-blanks}
 
 -- ---- digits are in a word
-digit-in-word : (c : ℕ) → T (isDigit c) → T (isInWord c)
+digit-in-word : (c : ℕ) → T (isDigit 10 c) → T (isInWord c)
 unfolding isInWord isBlank
 digit-in-word c t =
-    let r = digit-range c (truth (isDigit c) t) in
+    let r = digit-range c (truth (isDigit 10 c) t) in
     rw (
       ne-eqb c 32 (λ z. omega (arith, r .0)),
       ne-eqb c 9 (λ z. omega (arith, r .0)),
@@ -46,40 +48,40 @@ digit-in-word c t =
       ne-eqb c 13 (λ z. omega (arith, r .0)),
     ) tt
 
-all-in-word : (l : List ℕ) → T (all isDigit l) → T (all isInWord l)
+all-in-word : (l : List ℕ) → T (all (isDigit 10) l) → T (all isInWord l)
 all-in-word [] t = tt
 all-in-word (c ∷ l) t =
-    both (isInWord c) (all isInWord l) (digit-in-word c (and-left (isDigit c) (all isDigit l) t)) (all-in-word l (and-right (isDigit c) (all isDigit l) t))
+    both (isInWord c) (all isInWord l) (digit-in-word c (and-left (isDigit 10 c) (all (isDigit 10) l) t)) (all-in-word l (and-right (isDigit 10 c) (all (isDigit 10) l) t))
 
 not-blank : (w : List ℕ) → T (all isInWord w) → T (stops isBlank w)
 unfolding isInWord
 not-blank [] t = tt
 not-blank (c ∷ w) t = and-left (not (isBlank c)) (all isInWord w) t
 
-first-digit : (w : List ℕ) → T (all isDigit w) → 0 < length w → isDigit (getD w 0 0) ≡ true
+first-digit : (w : List ℕ) → T (all (isDigit 10) w) → 0 < length w → isDigit 10 (getD w 0 0) ≡ true
 first-digit [] t h = absurd (omega (arith, h))
-first-digit (c ∷ w) t h = truth (isDigit c) (and-left (isDigit c) (all isDigit w) t)
+first-digit (c ∷ w) t h = truth (isDigit 10 c) (and-left (isDigit 10 c) (all (isDigit 10) w) t)
 
 -- ---- a number is read back
-unsigned-back : (n : ℕ) → n < 2 ^ 64 → unsignedOf (decimal n) ≡ Value n
+unsigned-back : (n : ℕ) → n < 2 ^ 64 → numberIn 10 (decimal n) ≡ Value n
 unsigned-back n h =
     let w = decimal n in
-    let l : leading isDigit w ≡ length w = ap (leading isDigit) (sym (append-nil w)) ∙ all-leading isDigit w [] (decimal-digits n) tt in
-    sym (unsigned-all w (leading isDigit w) refl (λ z. omega (arith, z, l, decimal-some n)) (omega (arith, l))) ∙ ap limited (decimal-value n) ∙ sym (limited-value n h)
+    let l : leading (isDigit 10) w ≡ length w = ap (leading (isDigit 10)) (sym (append-nil w)) ∙ all-leading (isDigit 10) w [] (decimal-digits n) tt in
+    sym (unsigned-all 10 w (leading (isDigit 10) w) refl (λ z. omega (arith, z, l, decimal-some n)) (omega (arith, l))) ∙ ap limited (decimal-value n) ∙ sym (limited-value n h)
 
-number-low : (v : ℕ) → v < 2 ^ 63 → numberOf (signed v) ≡ Value v
+number-low : (v : ℕ) → v < 2 ^ 63 → signedOf (signed v) ≡ Value v
 number-low v h =
     let f = digit-range (getD (decimal v) 0 0) (first-digit (decimal v) (decimal-digits v) (decimal-some v)) in
-    ap numberOf (sym (signed-low v h)) ∙ sym (signed-plain (decimal v) (λ z. omega (arith, z, f .0))) ∙ unsigned-back v (omega (arith, h))
+    ap signedOf (sym (signed-low v h)) ∙ sym (signed-plain (decimal v) (λ z. omega (arith, z, f .0))) ∙ unsigned-back v (omega (arith, h))
 
-number-high : (v : ℕ) → 2 ^ 63 ≤ v → v < 2 ^ 64 → numberOf (signed v) ≡ Value v
+number-high : (v : ℕ) → 2 ^ 63 ≤ v → v < 2 ^ 64 → signedOf (signed v) ≡ Value v
 number-high v g h =
     let d = 18446744073709551615 - v + 1 in
     let e : 18446744073709551615 - d + 1 ≡ v = omega arith in
-    ap numberOf (sym (signed-high v g h)) ∙ sym (signed-minus (45 ∷ decimal d) refl) ∙ ap negated (unsigned-back d (omega arith))
+    ap signedOf (sym (signed-high v g h)) ∙ sym (signed-minus (45 ∷ decimal d) refl) ∙ ap negated (unsigned-back d (omega arith))
     ∙ sym (negated-value d (λ z. omega (arith, z)) (omega arith)) ∙ ap Value e
 
-number-back : (v : ℕ) → v < 2 ^ 64 → numberOf (signed v) ≡ Value v
+number-back : (v : ℕ) → v < 2 ^ 64 → signedOf (signed v) ≡ Value v
 number-back v h = cases v (2 ^ 63) (number-low v) (λ g. number-high v g h)
 
 signed-word : (v : ℕ) → v < 2 ^ 64 → T (all isInWord (signed v))
@@ -114,7 +116,7 @@ unfolding fromOperand isInWord isBlank
 operand-back op count v p h l =
     let w : Word = record { column = p + 1; bytes = signed v; rest = 10 ∷ [] } in
     let f = first-word p (32 ∷ []) (signed v) (10 ∷ []) tt (signed-word v h) (not-blank (signed v) (signed-word v h)) (signed-some v h) tt in
-    ap (operandBy op count) f ∙ by-some w _ (byNumber op count w (numberOf (signed v))) (signed-some v h)
+    ap (operandBy op count) f ∙ by-some w _ (byNumber op count w (signedOf (signed v))) (signed-some v h)
     ∙ ap (byNumber op count w) (number-back v h) ∙ rw (lt-ltb v (256 ^ count) l) (ended-back op count v (behind w))
 
 spaces : (n : ℕ) → T (all isBlank (replicate n 32))

@@ -3,9 +3,7 @@ pub mod Promises
 mod BigBytes
 mod Decimals
 mod Inverse
-mod Leading
 mod Lining
 mod Numbering
 mod Opcodes
 mod Texting
-mod Wording

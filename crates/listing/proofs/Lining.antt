@@ -13,17 +13,18 @@ use Rattle.encoding.proofs.Promises.{written-store, written-more, written-lengt
 use Rattle.isa.specs.Document.{below}
 use Rattle.isa.specs.Classes.{opcodes, classOf}
 use Rattle.listing.specs.Names.{opcodeOf}
-use Rattle.listing.specs.Numbers.{isDigit, unsignedOf, numberOf, bigBytes, isWidth}
-use Rattle.listing.specs.Words.{Word, firstWord, behind, IsAt}
+use Rattle.words.specs.Words.{Word, firstWord, behind, IsAt}
+use Rattle.words.specs.Numbers.{isDigit, numberIn}
+use Rattle.listing.specs.Numbers.{signedOf, bigBytes, isWidth}
 use Rattle.listing.specs.Line.{operandsOf, ended, byNumber, fromOperand, byOpcode, fromName, byOffset, readLine, readAnswer, readLeft}
-use Rattle.listing.specs.declared.words.Place.{Place}
-use Rattle.listing.specs.declared.numbers.Number.{Number}
-use Rattle.listing.specs.declared.numbers.Number.the-variants.{Value, Large, Not}
+use Rattle.words.specs.declared.Place.{Place}
+use Rattle.words.specs.declared.numbers.Number.{Number}
+use Rattle.words.specs.declared.numbers.Number.the-variants.{Value, Large, Not}
 use Rattle.listing.specs.declared.reading.Fault.the-variants.{WrongOffset, NoName, UnknownName, NoOperand, NotNumber, TooLarge, Trailing}
 use Rattle.listing.specs.declared.reading.Line.{Line}
 use Rattle.listing.specs.declared.reading.Line.the-variants.{Nothing, Instruction, Wrong}
 use Rattle.listing.specs.declared.reading.Read.the-variants.{Bytes, NoRoom}
-use Rattle.listing.proofs.Wording.{no-word, a-word}
+use Rattle.words.proofs.Wording.{no-word, a-word}
 use Rattle.listing.proofs.Opcodes.{below-at}
 
 -- ---- the line goes on behind a word as the code goes on
@@ -51,10 +52,10 @@ module _ {line : List ℕ} {r : Place} (p : ℕ) (l : List ℕ) (i : IsAt line r
     ends-later op count v = rw (a-word i some) (ap (Wrong Trailing) (i .start-is))
 
     -- an operand, which is the number x
-    module _ (op count : ℕ) (x : Number) (is : x ≡ numberOf (take (r .end - r .start) (drop (r .start) line))) where
+    module _ (op count : ℕ) (x : Number) (is : x ≡ signedOf (take (r .end - r .start) (drop (r .start) line))) where
       by-operand : byNumber op count (firstWord p l) x ≡ fromOperand op count p l
       unfolding fromOperand
-      by-operand = rw (a-word i some) (ap (byNumber op count (firstWord p l)) (is ∙ ap numberOf (i .bytes-is)))
+      by-operand = rw (a-word i some) (ap (byNumber op count (firstWord p l)) (is ∙ ap signedOf (i .bytes-is)))
 
       pub operand-not : x ≡ Not → Wrong NotNumber (r .start) ≡ fromOperand op count p l
       operand-not h = ap (Wrong NotNumber) (i .start-is) ∙ ap (byNumber op count (firstWord p l)) (sym h) ∙ by-operand
@@ -105,18 +106,18 @@ module _ {line : List ℕ} {r : Place} (at : ℕ) (i : IsAt line r (firstWord 0 
         ap (λ (j : ℕ). getD line j 0) (omega arith) ∙ sym (getD-drop (r .start) line 0 0) ∙ sym (getD-take (r .end - r .start) (drop (r .start) line) 0 0 n)
         ∙ ap (λ (m : List ℕ). getD m 0 0) (i .bytes-is)
 
-    by-first : (b : Bool) → b ≡ isDigit (getD line (r .start) 0)
-        → cond b (byOffset at (firstWord 0 line) (unsignedOf (firstWord 0 line .bytes))) (fromName 0 line) ≡ readLine at line
+    by-first : (b : Bool) → b ≡ isDigit 10 (getD line (r .start) 0)
+        → cond b (byOffset at (firstWord 0 line) (numberIn 10 (firstWord 0 line .bytes))) (fromName 0 line) ≡ readLine at line
     unfolding readLine
-    by-first b h = rw (a-word i some, h ∙ ap isDigit first-is)
+    by-first b h = rw (a-word i some, h ∙ ap (isDigit 10) first-is)
 
-    pub line-name : (b : Bool) → b ≡ isDigit (getD line (r .start) 0) → b ≡ false → fromName 0 line ≡ readLine at line
+    pub line-name : (b : Bool) → b ≡ isDigit 10 (getD line (r .start) 0) → b ≡ false → fromName 0 line ≡ readLine at line
     line-name b h f = rw f at (by-first b h)
 
-    module _ (b : Bool) (h : b ≡ isDigit (getD line (r .start) 0)) (t : b ≡ true)
-        (x : Number) (is : x ≡ unsignedOf (take (r .end - r .start) (drop (r .start) line))) where
+    module _ (b : Bool) (h : b ≡ isDigit 10 (getD line (r .start) 0)) (t : b ≡ true)
+        (x : Number) (is : x ≡ numberIn 10 (take (r .end - r .start) (drop (r .start) line))) where
       by-offset : byOffset at (firstWord 0 line) x ≡ readLine at line
-      by-offset = ap (byOffset at (firstWord 0 line)) (is ∙ ap unsignedOf (i .bytes-is)) ∙ (rw t at (by-first b h))
+      by-offset = ap (byOffset at (firstWord 0 line)) (is ∙ ap (numberIn 10) (i .bytes-is)) ∙ (rw t at (by-first b h))
 
       pub line-offset : (v : ℕ) → x ≡ Value v → v ≡ at → fromName (r .end) (drop (r .end) line) ≡ readLine at line
       line-offset v e q =

@@ -17,10 +17,10 @@ use Rattle.isa.specs.Classes.{kind-unsupported, kind, classOf, opcodes}
 use Rattle.isa.specs.Document.{below}
 use Rattle.isa.proofs.Promises.{known-low}
 use Rattle.report.specs.Hex.{isBlank}
-use Rattle.listing.specs.Names.{names, nameOf, sameBytes, placeFrom, opcodeOf, table}
-use Rattle.listing.specs.Numbers.{leading}
-use Rattle.listing.specs.Words.{isInWord}
-use Rattle.listing.proofs.Leading.{all, both}
+use Rattle.words.specs.Words.{leading, isInWord, sameBytes, placeFrom}
+use Rattle.words.proofs.Leading.{all}
+use Rattle.words.proofs.Same.{same-sound}
+use Rattle.listing.specs.Names.{names, nameOf, opcodeOf, table}
 
 -- ---- a test of every opcode below n
 pub below-at : (n : ℕ) (f : ℕ → Bool) → T (below n f) → (k : ℕ) → k < n → T (f k)
@@ -30,29 +30,6 @@ below-at (suc n) f t k h =
       | yes e ↦ subst (λ (x : ℕ). T (f x)) (sym e) (and-left (f n) (below n f) t)
       | no e ↦ below-at n f (and-right (f n) (below n f) t) k (omega arith)
     ]
-
--- ---- texts are the same, or they are not
-pub same-sound : (xs ys : List ℕ) → T (sameBytes xs ys) → xs ≡ ys
-same-sound [] [] t = refl
-same-sound [] (y ∷ ys) t = absurd t
-same-sound (x ∷ xs) [] t = absurd t
-same-sound (x ∷ xs) (y ∷ ys) t =
-    let e : x ≡ y = eqb→eq x y (and-left (eqb x y) (sameBytes xs ys) t) in
-    let f = same-sound xs ys (and-right (eqb x y) (sameBytes xs ys) t) in
-    ap (λ (z : ℕ). z ∷ xs) e ∙ ap (λ (l : List ℕ). y ∷ l) f
-
-same-refl : (xs : List ℕ) → T (sameBytes xs xs)
-same-refl [] = tt
-same-refl (x ∷ xs) = both (eqb x x) (sameBytes xs xs) (eqb-refl x) (same-refl xs)
-
-agree : (r b : Bool) → (r ≡ true → T b) → (T b → r ≡ true) → r ≡ b
-agree true true f g = refl
-agree true false f g = absurd (f refl)
-agree false true f g = g tt
-agree false false f g = refl
-
-pub same-decides : (r : Bool) (xs ys : List ℕ) → (r ≡ true → xs ≡ ys) → (xs ≡ ys → r ≡ true) → r ≡ sameBytes xs ys
-same-decides r xs ys f g = agree r (sameBytes xs ys) (λ e. subst (λ (l : List ℕ). T (sameBytes xs l)) (f e) (same-refl xs)) (λ t. g (same-sound xs ys t))
 
 -- ---- a row of the code's table is the name up to the first space
 rows-right : T (below 53 (λ op. sameBytes (take (leading isInWord (getD table op [])) (getD table op [])) (nameOf op)))
@@ -148,5 +125,5 @@ module _ (t : List (List ℕ)) (op : ℕ) (is : t ≡ table) (h : op < 53) where
         ∙ ap (λ (u : List (List ℕ)). take (leading isInWord (getD u op [])) (getD u op [])) is
         ∙ name-row op h
 
-    pub row-is : (r : Bool) (w : List ℕ) → (r ≡ true → take (n - 0) (getD t op []) ≡ w) × (take (n - 0) (getD t op []) ≡ w → r ≡ true) → r ≡ sameBytes (nameOf op) w
-    row-is r w e = same-decides r (nameOf op) w (λ q. sym row-name ∙ e .0 q) (λ q. e .1 (row-name ∙ q))
+    pub row-is : (r : Bool) (w : List ℕ) → r ≡ sameBytes (take (n - 0) (getD t op [])) w → r ≡ sameBytes (nameOf op) w
+    row-is r w e = e ∙ ap (λ (l : List ℕ). sameBytes l w) row-name

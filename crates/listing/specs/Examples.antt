@@ -2,11 +2,12 @@
 use mathlib.Core.Path.{_≡_, refl}
 use mathlib.Core.List.{[], _∷_, map}
 use Rattle.isa.specs.Classes.{opcodes, classOf}
-use Rattle.report.specs.Hex.{isBlank}
+use Rattle.report.specs.Hex.{isBlank, digitOf}
 use Rattle.report.specs.Text.{bytesOf}
-use Rattle.listing.specs.Names.{names, nameOf, placeFrom, opcodeOf}
-use Rattle.listing.specs.Numbers.{decimalBy, decimal, signed, isDigit, valueFrom, unsignedOf, negated, numberOf}
-use Rattle.listing.specs.Words.{isInWord, firstWord}
+use Rattle.listing.specs.Names.{names, nameOf, opcodeOf}
+use Rattle.words.specs.Words.{isInWord, firstWord, placeFrom}
+use Rattle.words.specs.Numbers.{isDigit, valueFrom, numberIn}
+use Rattle.listing.specs.Numbers.{decimalBy, decimal, signed, negated, signedOf}
 use Rattle.listing.specs.Text.{aligned, operandText, textOf}
 use Rattle.listing.specs.Line.{ended, fromOperand, fromName, readLine}
 use Rattle.listing.specs.declared.reading.Fault.the-variants.{WrongOffset, NoName, UnknownName, NoOperand, NotNumber, TooLarge, Trailing}
@@ -25,5 +26,5 @@ lines :
     (" 2 const8 5" ∷ "const64 -1\n" ∷ "\tadd " ∷ "const64 18446744073709551615" ∷ "" ∷ "3 add" ∷ "2" ∷ "2 ad" ∷ "ext" ∷ "ext 8x" ∷ "ext 256" ∷ "ext -1" ∷ "pop 1" ∷ [])
     ≡ Instruction 0x22 1 5 ∷ Instruction 0x25 8 18446744073709551615 ∷ Instruction 0x02 0 0 ∷ Instruction 0x25 8 18446744073709551615 ∷ Nothing
     ∷ Wrong WrongOffset 0 ∷ Wrong NoName 1 ∷ Wrong UnknownName 2 ∷ Wrong NoOperand 3 ∷ Wrong NotNumber 4 ∷ Wrong TooLarge 4 ∷ Wrong TooLarge 4 ∷ Wrong Trailing 4 ∷ []
-unfolding readLine fromName fromOperand ended firstWord isInWord isBlank isDigit unsignedOf numberOf negated valueFrom opcodeOf placeFrom names classOf opcodes
+unfolding readLine fromName fromOperand ended firstWord isInWord isBlank digitOf isDigit numberIn signedOf negated valueFrom opcodeOf placeFrom names classOf opcodes
 lines = refl

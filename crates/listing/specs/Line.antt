@@ -7,10 +7,11 @@ use lib.ListN.{length, getD}
 use Rattle.encoding.specs.Written.{writtenAt}
 use Rattle.isa.specs.Classes.{classOf, row}
 use Rattle.listing.specs.Names.{opcodeOf}
-use Rattle.listing.specs.Numbers.{isDigit, unsignedOf, numberOf, bigBytes}
-use Rattle.listing.specs.Words.{Word, firstWord, behind}
-use Rattle.listing.specs.declared.numbers.Number.{Number}
-use Rattle.listing.specs.declared.numbers.Number.the-variants.{Value, Large, Not}
+use Rattle.words.specs.Words.{Word, firstWord, behind}
+use Rattle.words.specs.Numbers.{isDigit, numberIn}
+use Rattle.words.specs.declared.numbers.Number.{Number}
+use Rattle.words.specs.declared.numbers.Number.the-variants.{Value, Large, Not}
+use Rattle.listing.specs.Numbers.{signedOf, bigBytes}
 use Rattle.listing.specs.declared.reading.Fault.the-variants.{WrongOffset, NoName, UnknownName, NoOperand, NotNumber, TooLarge, Trailing}
 use Rattle.listing.specs.declared.reading.Line.{Line}
 use Rattle.listing.specs.declared.reading.Line.the-variants.{Nothing, Instruction, Wrong}
@@ -38,7 +39,7 @@ byNumber op count w Large = Wrong TooLarge (w .column)
 byNumber op count w Not = Wrong NotNumber (w .column)
 
 abbrev pub operandBy : ℕ → ℕ → Word → Line
-operandBy op count w = byWord w (Wrong NoOperand (w .column)) (byNumber op count w (numberOf (w .bytes)))
+operandBy op count w = byWord w (Wrong NoOperand (w .column)) (byNumber op count w (signedOf (w .bytes)))
 
 -- the line from the operand on: the text l from column p on
 unfoldable pub fromOperand : ℕ → ℕ → ℕ → List ℕ → Line
@@ -64,7 +65,7 @@ byOffset at w Not = Wrong WrongOffset (w .column)
 
 abbrev pub lineBy : ℕ → List ℕ → Word → Line
 lineBy at line w =
-    byWord w Nothing (cond (isDigit (getD (w .bytes) 0 0)) (byOffset at w (unsignedOf (w .bytes))) (fromName 0 line))
+    byWord w Nothing (cond (isDigit 10 (getD (w .bytes) 0 0)) (byOffset at w (numberIn 10 (w .bytes))) (fromName 0 line))
 
 -- what the line of the instruction at offset `at` says
 unfoldable pub readLine : ℕ → List ℕ → Line

@@ -1,11 +1,10 @@
 -- The names of the instructions, as the GDB manual writes them ("Bytecode Descriptions"; document 01, "The instruction table").
-use Prim.Native.Nat.{ℕ, _+_, _-_}
+use Prim.Native.Nat.{ℕ, _-_}
 use Prim.Native.String.{String}
-use mathlib.Core.Bool.{Bool, true, false, cond, _&&_}
 use mathlib.Core.List.{List, [], _∷_, _++_, map}
-use lib.Dec.{eqb}
 use lib.ListN.{length, getD, replicate}
 use Rattle.report.specs.Text.{bytesOf}
+use Rattle.words.specs.Words.{placeFrom}
 
 -- by opcode from 00 to 34; an opcode that is unknown or unsupported has none
 unfoldable pub names : List String
@@ -20,17 +19,6 @@ names =
 
 unfoldable pub nameOf : ℕ → List ℕ
 nameOf op = bytesOf (getD names op "")
-
-abbrev pub sameBytes : List ℕ → List ℕ → Bool
-sameBytes [] [] = true
-sameBytes [] (y ∷ ys) = false
-sameBytes (x ∷ xs) [] = false
-sameBytes (x ∷ xs) (y ∷ ys) = eqb x y && sameBytes xs ys
-
--- the place of the first of the names that is w, where the first has the place op
-unfoldable pub placeFrom : ℕ → List String → List ℕ → ℕ
-placeFrom op [] w = op
-placeFrom op (n ∷ ns) w = cond (sameBytes (bytesOf n) w) op (placeFrom (op + 1) ns w)
 
 -- the opcode whose name is w, or 53
 unfoldable pub opcodeOf : List ℕ → ℕ

@@ -1,12 +1,12 @@
 -- Numbers in decimal, and in bytes with the most significant first.
-use Prim.Native.Nat.{ℕ, zero, suc, _+_, _-_, _*_, _/_, _%_, _^_}
+use Prim.Native.Nat.{ℕ, zero, suc, _+_, _-_, _/_, _%_, _^_}
 use mathlib.Core.Bool.{Bool, cond, _||_}
 use mathlib.Core.List.{List, [], _∷_, _++_}
 use lib.Dec.{ltb, leb, eqb}
-use lib.ListN.{length, drop, getD}
-use Rattle.report.specs.Hex.{isBetween}
-use Rattle.listing.specs.declared.numbers.Number.{Number}
-use Rattle.listing.specs.declared.numbers.Number.the-variants.{Value, Large, Not}
+use lib.ListN.{drop, getD}
+use Rattle.words.specs.Numbers.{numberIn}
+use Rattle.words.specs.declared.numbers.Number.{Number}
+use Rattle.words.specs.declared.numbers.Number.the-variants.{Value, Large, Not}
 
 -- ---- written
 
@@ -25,27 +25,6 @@ signed v = cond (ltb v (2 ^ 63)) (decimal v) (45 ∷ decimal (2 ^ 64 - v))
 
 -- ---- read
 
--- how many characters at the start of a text pass the test
-abbrev pub leading : (ℕ → Bool) → List ℕ → ℕ
-leading p [] = 0
-leading p (c ∷ l) = cond (p c) (suc (leading p l)) 0
-
-unfoldable pub isDigit : ℕ → Bool
-isDigit c = isBetween 48 57 c
-
--- the number whose digits are those of v and then l
-unfoldable pub valueFrom : ℕ → List ℕ → ℕ
-valueFrom v [] = v
-valueFrom v (c ∷ l) = valueFrom (v * 10 + (c - 48)) l
-
--- a number that 64 bits can hold, or one that they cannot
-abbrev pub limited : ℕ → Number
-limited v = cond (ltb v (2 ^ 64)) (Value v) Large
-
--- a word that is one digit or more and nothing else
-unfoldable pub unsignedOf : List ℕ → Number
-unsignedOf w = cond (eqb (leading isDigit w) 0) Not (cond (ltb (leading isDigit w) (length w)) Not (limited (valueFrom 0 w)))
-
 -- the word of 64 bits for -d, where d is from 1 to 2^63
 unfoldable pub negated : Number → Number
 negated (Value d) = cond (eqb d 0) Large (cond (leb d (2 ^ 63)) (Value (2 ^ 64 - d)) Large)
@@ -53,8 +32,8 @@ negated Large = Large
 negated Not = Not
 
 -- with or without a minus in front
-unfoldable pub numberOf : List ℕ → Number
-numberOf w = cond (eqb (getD w 0 0) 45) (negated (unsignedOf (drop 1 w))) (unsignedOf w)
+unfoldable pub signedOf : List ℕ → Number
+signedOf w = cond (eqb (getD w 0 0) 45) (negated (numberIn 10 (drop 1 w))) (numberIn 10 w)
 
 -- ---- in bytes
 

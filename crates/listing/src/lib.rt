@@ -2,5 +2,4 @@
 mod names;
 mod numbers;
 pub mod reading;
-mod words;
 pub mod writing;

@@ -2,8 +2,9 @@
 ghost use mathlib.Core.Path.{_≡_};
 ghost use Prim.Native.Nat.{_<_, _≤_};
 ghost use Rattle.report.specs.Text.{Appends};
-ghost use Rattle.listing.specs.Names.{table, sameBytes, nameOf, opcodeOf};
-use crate::words::word_length;
+ghost use Rattle.words.specs.Words.{sameBytes};
+ghost use Rattle.listing.specs.Names.{table, nameOf, opcodeOf};
+use words::word_length;
 
 // By opcode from 00 to 34, with spaces behind. An opcode that is unknown or unsupported has none.
 const NAMES: [[u8; 13]; 53] = [
@@ -69,7 +70,7 @@ fn is_name(names: &[[u8; 13]; 53], opcode: usize, word: &[u8]) -> bool
 {
     let name = names[opcode];
     let n = word_length(&name);
-    check::same(&name[0..n], word)
+    words::is_same(&name[0..n], word)
 }
 
 fn find(names: &[[u8; 13]; 53], word: &[u8]) -> usize

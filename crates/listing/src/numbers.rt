@@ -4,72 +4,9 @@ ghost use Prim.Native.Nat.{_+_, _<_, _≤_, _^_};
 ghost use lib.Dec.{T, ltb};
 ghost use lib.ListN.{length};
 ghost use Rattle.encoding.specs.Written.{writtenAt};
-ghost use Rattle.listing.specs.Numbers.{leading, isDigit, valueFrom, limited, unsignedOf, negated, numberOf, bigBytes, isWidth};
-
-// What a word is as a number of 64 bits: its value; more than they can hold; or no number.
-pub enum Number {
-    Value(u64),
-    Large,
-    Not,
-}
-
-pub fn is_digit(c: u8) -> bool
-    ensures { λ r. ⌜ r ≡ isDigit c ⌝ }
-{
-    if c < b'0' {
-        return false;
-    }
-    c <= b'9'
-}
-
-// The number of digits at the start.
-fn digits(text: &[u8]) -> usize
-    ensures { λ r. ⌜ (r ≡ leading isDigit (now (text .entry))) × (r ≤ length (now (text .entry))) ⌝ }
-{
-    let mut n = 0;
-    while n < text.len() {
-        if !is_digit(text[n]) {
-            return n;
-        }
-        n += 1;
-    }
-    n
-}
-
-fn value(text: &[u8]) -> Number
-    requires { ⌜ length (now text) ≤ leading isDigit (now text) ⌝ }
-    ensures { λ r. ⌜ r ≡ limited (valueFrom 0 (now (text .entry))) ⌝ }
-{
-    let mut value: u64 = 0;
-    let mut n = 0;
-    while n < text.len() {
-        let digit = encoding::wide(text[n]) - 48;
-        if 1844674407370955161 < value {
-            return Number::Large;
-        }
-        let tens = value * 10;
-        if u64::MAX - tens < digit {
-            return Number::Large;
-        }
-        value = tens + digit;
-        n += 1;
-    }
-    Number::Value(value)
-}
-
-// A word that is digits only.
-pub fn unsigned(word: &[u8]) -> Number
-    ensures { λ r. ⌜ r ≡ unsignedOf (now (word .entry)) ⌝ }
-{
-    let n = digits(word);
-    if n == 0 {
-        return Number::Not;
-    }
-    if n < word.len() {
-        return Number::Not;
-    }
-    value(word)
-}
+ghost use Rattle.listing.specs.Numbers.{negated, signedOf, bigBytes, isWidth};
+use words::numbers::Number;
+use words::numbers::unsigned;
 
 // The word of 64 bits for the negative of a number.
 fn negative(number: Number) -> Number
@@ -93,12 +30,12 @@ fn negative(number: Number) -> Number
 // A word that is digits, with or without a minus in front.
 pub fn signed(word: &[u8]) -> Number
     requires { ⌜ 0 < length (now word) ⌝ }
-    ensures { λ r. ⌜ r ≡ numberOf (now (word .entry)) ⌝ }
+    ensures { λ r. ⌜ r ≡ signedOf (now (word .entry)) ⌝ }
 {
     if word[0] == b'-' {
-        return negative(unsigned(&word[1..]));
+        return negative(unsigned(&word[1..], 10));
     }
-    unsigned(word)
+    unsigned(word, 10)
 }
 
 // Whether so many bytes can hold the value.

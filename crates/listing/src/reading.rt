@@ -6,13 +6,13 @@ ghost use lib.ListN.{length, drop};
 ghost use Rattle.listing.specs.Numbers.{isWidth};
 ghost use Rattle.listing.specs.Line.{ended, fromOperand, fromName, readLine, readAnswer, readLeft};
 use crate::names::opcode_of;
-use crate::numbers::Number;
 use crate::numbers::fits;
-use crate::numbers::is_digit;
 use crate::numbers::put_big;
 use crate::numbers::signed;
-use crate::numbers::unsigned;
-use crate::words::next_word;
+use words::next_word;
+use words::numbers::Number;
+use words::numbers::is_digit;
+use words::numbers::unsigned;
 
 // Why a line is refused.
 pub enum Fault {
@@ -107,10 +107,10 @@ pub fn read_line(line: &[u8], at: usize) -> Line
     if start == end {
         return Line::Nothing;
     }
-    if !is_digit(line[start]) {
+    if !is_digit(line[start], 10) {
         return read_name(line, 0);
     }
-    match unsigned(&line[start..end]) {
+    match unsigned(&line[start..end], 10) {
         Number::Not => Line::Wrong(Fault::WrongOffset, start),
         Number::Large => Line::Wrong(Fault::WrongOffset, start),
         Number::Value(v) => {

@@ -44,7 +44,7 @@ pub fn is_blank(c: u8) -> bool
 }
 
 // The value of a digit, and 16 for any other character.
-fn digit(c: u8) -> u8
+pub fn digit(c: u8) -> u8
     ensures { λ r. ⌜ r ≡ digitOf c ⌝ }
 {
     match c {

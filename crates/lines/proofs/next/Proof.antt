@@ -6,10 +6,10 @@ use Rattle.lines.proofs.next.Statement.{statement}
 use Rattle.lines.proofs.next.Tie as tie
 
 abbrev Inv-loop : tie.InvT-loop
-Inv-loop input₀ text₀ len₀ from₀ to₀ turns₀ input text len from to turns = (length input ≡ length input₀) × (length text ≡ length text₀)
+Inv-loop input₀ text₀ fd len₀ from₀ to₀ turns₀ input text len from to turns = (length input ≡ length input₀) × (length text ≡ length text₀)
 
 abbrev μ-loop : tie.MeasureT-loop
-μ-loop input₀ text₀ len₀ from₀ to₀ turns₀ input text len from to turns = turns
+μ-loop input₀ text₀ fd len₀ from₀ to₀ turns₀ input text len from to turns = turns
 
 loop-holds : tie.Need-loop-holds Inv-loop μ-loop
 loop-holds c = search needs
@@ -29,8 +29,11 @@ same-length-2 c = search needs
 returns : tie.Need-returns Inv-loop μ-loop
 returns c = search needs
 
-fill-requires : tie.Need-fill-requires Inv-loop μ-loop
-fill-requires c κs = search needs
+read-requires : tie.Need-read-requires Inv-loop μ-loop
+read-requires c κs = search needs
+
+count-requires : tie.Need-count-requires Inv-loop μ-loop
+count-requires c κs = search needs
 
 last-requires : tie.Need-last-requires Inv-loop μ-loop
 last-requires c κs = search needs
@@ -77,7 +80,8 @@ next-spec =
     same-length
     same-length-2
     returns
-    fill-requires
+    read-requires
+    count-requires
     last-requires
     same-length-3
     same-length-4

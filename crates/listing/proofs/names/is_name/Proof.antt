@@ -16,20 +16,20 @@ slice-aggregate-word-length c = let a = c .before .before .before .args in row-l
 word-length-requires : tie.Need-word-length-requires
 word-length-requires c κs = search needs
 
-sub-same : tie.Need-sub-same
-sub-same c = search needs
+sub-is-same : tie.Need-sub-is-same
+sub-is-same c = search needs
 
-part-same-start : tie.Need-part-same-start
-part-same-start c = search needs
+part-is-same-start : tie.Need-part-is-same-start
+part-is-same-start c = search needs
 
-part-same-end : tie.Need-part-same-end
-part-same-end c = search needs
+part-is-same-end : tie.Need-part-is-same-end
+part-is-same-end c = search needs
 
-same-requires : tie.Need-same-requires
-same-requires c κs = search needs
+is-same-requires : tie.Need-is-same-requires
+is-same-requires c κs = search needs
 
 returns : tie.Need-returns
-returns c = let a = c .before .before .before .before .before .before .before .args in row-is (now (a .names)) (a .opcode) (c .before .before .before .before .before .before .before .pre .0) (c .before .before .before .before .before .before .before .pre .1) _ (c .before .before .before .word-length .ensures .0) _ _ (c .same .ensures)
+returns c = let a = c .before .before .before .before .before .before .before .args in row-is (now (a .names)) (a .opcode) (c .before .before .before .before .before .before .before .pre .0) (c .before .before .before .before .before .before .before .pre .1) _ (c .before .before .before .word-length .ensures .0) _ _ (c .is-same .ensures)
 
 pub is-name-spec : {M : Type 1} → statement M
 is-name-spec =
@@ -39,8 +39,8 @@ is-name-spec =
     element-copy-out-name
     slice-aggregate-word-length
     word-length-requires
-    sub-same
-    part-same-start
-    part-same-end
-    same-requires
+    sub-is-same
+    part-is-same-start
+    part-is-same-end
+    is-same-requires
     returns)

@@ -2,7 +2,8 @@ use borrow.Author.Needs.{needs}
 use denote.Ref.{now}
 use mathlib.Core.Path.{_∙_, ap}
 use Rattle.encoding.proofs.Promises.{part-lent}
-use Rattle.listing.specs.Numbers.{unsignedOf, negated}
+use Rattle.words.specs.Numbers.{numberIn}
+use Rattle.listing.specs.Numbers.{negated}
 use Rattle.listing.proofs.Numbering.{signed-minus, signed-plain}
 use Rattle.listing.proofs.numbers.signed.Statement.{statement}
 use Rattle.listing.proofs.numbers.signed.Tie as tie
@@ -26,7 +27,7 @@ negative-requires : tie.Need-negative-requires
 negative-requires c κs = search needs
 
 returns : tie.Need-returns
-returns c = c .negative .ensures ∙ ap negated (c .before .unsigned .ensures ∙ ap unsignedOf (part-lent (now (c .before .before .before .before .before .before .args .word)) 1)) ∙ signed-minus _ (c .before .before .before .if1 .taken)
+returns c = c .negative .ensures ∙ ap negated (c .before .unsigned .ensures ∙ ap (numberIn 10) (part-lent (now (c .before .before .before .before .before .before .args .word)) 1)) ∙ signed-minus _ (c .before .before .before .if1 .taken)
 
 unsigned-requires-2 : tie.Need-unsigned-requires-2
 unsigned-requires-2 c κs = search needs

@@ -1,0 +1,58 @@
+// Files that a scenario names: read whole, and written.
+
+// A file's bytes, so many; or it cannot be opened, or read; or it has more bytes than there is room for.
+pub enum Loaded {
+    Bytes(usize),
+    NotOpened,
+    NotRead,
+    TooLong,
+}
+
+// Whether the file goes on: one byte more can be read.
+fn goes_on(fd: i32) -> bool {
+    let mut more = [0u8; 1];
+    0 < libc::read(fd, &mut more)
+}
+
+fn read_all(fd: i32, bytes: &mut [u8]) -> Loaded {
+    let mut n = 0;
+    while n < bytes.len() {
+        let got = libc::read(fd, &mut bytes[n..]);
+        if got < 0 {
+            return Loaded::NotRead;
+        }
+        let more = io::count(got, &bytes[n..]);
+        if more == 0 {
+            return Loaded::Bytes(n);
+        }
+        n += more;
+    }
+    if goes_on(fd) {
+        return Loaded::TooLong;
+    }
+    Loaded::Bytes(n)
+}
+
+// Puts the file's bytes at the start of `bytes`.
+pub fn load(name: &[u8], bytes: &mut [u8]) -> Loaded {
+    let fd = os::open_read(name);
+    if fd < 0 {
+        return Loaded::NotOpened;
+    }
+    let loaded = read_all(fd, bytes);
+    libc::close(fd);
+    loaded
+}
+
+// Writes the bytes over the file. The answer is whether all of them were written.
+pub fn save(name: &[u8], bytes: &[u8]) -> bool {
+    let fd = os::open_overwrite(name);
+    if fd < 0 {
+        return false;
+    }
+    let is_written = io::write_all(fd, bytes);
+    if libc::close(fd) < 0 {
+        return false;
+    }
+    is_written
+}

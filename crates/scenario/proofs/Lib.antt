@@ -1,0 +1,2 @@
+-- The work behind the contracts of src/.
+mod Reading

@@ -1,0 +1,3 @@
+-- The definitions of `scenario`, in the order to read them.
+pub mod Items
+mod Examples
