@@ -4,7 +4,7 @@ use mathlib.Core.List.{List, [], _∷_, _++_, append-assoc}
 use mathlib.Core.Logic.{_≢_}
 use mathlib.Core.Path.{_≡_, refl, ap, sym, _∙_}
 use Prim.Native.Nat.{ℕ, suc, _+_, _-_, _≤_, _<_}
-use native.Mathlib.Nat.{sub-zero}
+use native.Mathlib.Nat.{sub-zero, sub-self}
 use native.Mathlib.Omega.{arith}
 use lib.ListN.{length, length-append}
 use lib.Dec.{eqb, leb}
@@ -60,9 +60,9 @@ pub record Loop (m : Fed) (b₀ : List ℕ) (u : ℕ) (g : List ℕ) (max : ℕ)
 
 module _ {m : Fed} {c₀ g₀ l₀ : ℕ} (acc : Accepted (m .expression) c₀ g₀ l₀) where
   pub loop-start : (b₀ : List ℕ) (u : ℕ) (g : List ℕ) (max : ℕ) {a : List ℕ} {h : ℕ} → u ≤ length b₀ → h ≡ 0 → length a ≡ 64
-      → Loop m b₀ u g max g b₀ a h 0 u 0
+      → Loop m b₀ u g max g b₀ a h 0 u (max - max)
   unfolding encodeAll held
-  loop-start b₀ u g max hu z l = record {
+  loop-start b₀ u g max hu z l = rw sub-self (record {
     records = [];
     walk = rw z (walk-begins acc);
     same = rw (sub-zero, z) refl;
@@ -71,7 +71,7 @@ module _ {m : Fed} {c₀ g₀ l₀ : ℕ} (acc : Accepted (m .expression) c₀ g
     laid = sym (written-nothing b₀ u);
     within = omega arith;
     long = l;
-  }
+  })
 
 module _ {m : Fed} {b₀ : List ℕ} {u : ℕ} {g : List ℕ} {max : ℕ} {v b : List ℕ} {a : List ℕ} {h k p n : ℕ} (l : Loop m b₀ u g max v b a h k p n) where
   pub as-long : length b ≡ length b₀
@@ -90,6 +90,14 @@ module _ {m : Fed} {b₀ : List ℕ} {u : ℕ} {g : List ℕ} {max : ℕ} {v b :
 
   followed : n < max → {e : Effect} → effect m k (held a h) v (length b - p) ≡ e → moves m (length b₀ - u) max (begin g) ≡ follow (moves m (length b₀ - u) (max - (n + 1))) (state k (held a h) v (l .records) n) e
   followed lt q = move lt ∙ ap (follow (moves m (length b₀ - u) (max - (n + 1))) (state k (held a h) v (l .records) n)) q
+
+-- the steps done, where so many of the allowance are left
+module _ {max left : ℕ} (some : 0 < left) (w : left ≤ max) where
+  pub still-left : max - left < max
+  still-left = omega arith
+
+  pub one-less : max - left + 1 ≡ max - (left - 1)
+  one-less = omega arith
 
 -- ---- what acceptance says where the loop stands
 module _ {m : Fed} {c₀ g₀ l₀ : ℕ} (acc : Accepted (m .expression) c₀ g₀ l₀) {b₀ : List ℕ} {u : ℕ} {g : List ℕ} {max : ℕ} {v b : List ℕ} {a : List ℕ} {h k p n : ℕ}

@@ -55,7 +55,7 @@ fn close_frame(buffer: &mut [u8], put: usize, tracepoint: u16, size: usize)
 }
 
 // A run of an accepted expression on inputs that 12 to 15 allow. It works on the lent variables: those given are kept, and every refusal puts
-// them back.
+// them back. What is left of the allowance is counted down, so that one machine instruction both counts and tests.
 // Where a step stops, its answer has the offset and the end of what is written as they were: so they are taken before `stop` is tested.
 fn run_accepted<'a>(
     rows: &[[u8; 4]; 53],
@@ -79,8 +79,8 @@ fn run_accepted<'a>(
     let mut height = stack.height;
     let mut at = 0;
     let mut put = used;
-    let mut steps = 0;
-    while steps < allowance {
+    let mut left = allowance;
+    while 0 < left {
         let next = stepping::step(
             rows,
             code,
@@ -100,6 +100,7 @@ fn run_accepted<'a>(
         height = next.height;
         put = next.put;
         if next.stop != 0 {
+            let steps = allowance - left;
             let counted = steps + 1;
             if next.stop == 1 {
                 let value = value_of(&stack.cells, height);
@@ -109,10 +110,10 @@ fn run_accepted<'a>(
             *variables = given;
             return Outcome::Refused(next.stop, at, steps);
         }
-        steps += 1;
+        left -= 1;
     }
     *variables = given;
-    Outcome::Refused(16, at, steps)
+    Outcome::Refused(16, at, allowance - left)
 }
 
 // 12 to 15, tried in that order; 0 where none is met.

@@ -1,19 +1,20 @@
 -- From what a function of a class gives to what a step gives.
 use mathlib.Core.Bool.{Bool, true, false, cond, not, _&&_}
 use mathlib.Core.List.{List, [], _∷_, _++_}
-use mathlib.Core.Logic.{_≢_}
+use mathlib.Core.Logic.{_≢_, ⊎-elim}
 use mathlib.Core.Path.{_≡_, refl, ap, sym, _∙_}
 use Prim.Native.Nat.{ℕ, _+_, _≤_, _<_}
 use native.Mathlib.Nat.{add-zero}
 use native.Mathlib.Omega.{arith}
 use lib.ListN.{length, getD, drop, set}
-use lib.Dec.{eqb, leb}
+use lib.Dec.{T, eqb, leb, leb→le}
+use types.Run.{OneOf}
 use borrow.Author.Tests.{ne-eqb}
-use Rattle.encoding.proofs.Promises.{written-nothing}
+use Rattle.encoding.proofs.Promises.{and-left, and-right, written-nothing}
 use Rattle.isa.specs.Classes.{Class, unsupported, unknown, member, opcodes, classOf, row, kind, kind-unsupported, kind-goto, kind-if-goto, kind-end}
 use Rattle.isa.specs.Decode.{classAt, next, operand}
 use Rattle.isa.specs.Held.{held}
-use Rattle.isa.proofs.Promises.{needed-class}
+use Rattle.isa.proofs.Promises.{needed-class, known-low}
 use Rattle.frames.specs.Record.{Record, encodeAll}
 use Rattle.frames.specs.Trailer.{trailerSize}
 use Rattle.machine.specs.Fed.{Fed}
@@ -224,7 +225,22 @@ unsupported-else op h =
 pub none-left {ℓ} : {X : Type ℓ} (op : ℕ) → NoneOf44 op → kind-unsupported < kind (classOf op) → X
 none-left op h l = absurd (omega (arith, unsupported-else op h))
 
--- nor is 0x00 supported
-pub not-zero {ℓ} : {X : Type ℓ} (op : ℕ) → op ≡ 0x00 → kind-unsupported < kind (classOf op) → X
-unfolding classOf opcodes
-not-zero op q l = absurd (let z : kind-unsupported < kind (classOf 0x00) = rw q at l in omega arith)
+-- none of these numbers is a supported opcode
+abbrev pub noneSupported : List ℕ → Bool
+noneSupported [] = true
+noneSupported (k ∷ ks) = leb (kind (classOf k)) kind-unsupported && noneSupported ks
+
+not-this {ℓ} : {X : Type ℓ} (op k : ℕ) → T (leb (kind (classOf k)) kind-unsupported) → op ≡ k → kind-unsupported < kind (classOf op) → X
+not-this op k t q l = absurd (let z : kind-unsupported < kind (classOf k) = rw q at l in omega (arith, leb→le (kind (classOf k)) kind-unsupported t))
+
+pub not-these {ℓ} : {X : Type ℓ} (op k : ℕ) (ks : List ℕ) → T (noneSupported (k ∷ ks)) → OneOf (k ∷ ks) op → kind-unsupported < kind (classOf op) → X
+not-these op k [] t q l = not-this op k (and-left (leb (kind (classOf k)) kind-unsupported) true t) q l
+not-these op k (j ∷ ks) t q l =
+    ⊎-elim
+    (λ e. not-this op k (and-left (leb (kind (classOf k)) kind-unsupported) (noneSupported (j ∷ ks)) t) e l)
+    (λ r. not-these op j ks (and-right (leb (kind (classOf k)) kind-unsupported) (noneSupported (j ∷ ks)) t) r l)
+    q
+
+-- a supported opcode is below 64
+pub supported-low : (op : ℕ) → kind-unsupported < kind (classOf op) → op < 64
+supported-low op l = omega (arith, known-low op (omega arith))

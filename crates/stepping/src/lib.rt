@@ -1,8 +1,8 @@
 // One step of the machine: the instruction at an offset, by one arm for each opcode. The arm names the opcode, so that its row is known when this is compiled.
-// No expression that is accepted has the opcodes of the last two arms. 0x00 has one of its own, so that the jump table begins at 0.
+// No expression that is accepted has the opcodes of the last three arms.
 ghost use mathlib.Core.Path.{_≡_};
-ghost use Prim.Native.Nat.{_-_, _≤_};
-ghost use lib.ListN.{length};
+ghost use Prim.Native.Nat.{_-_, _≤_, _<_};
+ghost use lib.ListN.{length, getD};
 ghost use Rattle.isa.specs.Held.{held};
 ghost use Rattle.memory.specs.Spans.{spansRefusal};
 ghost use Rattle.machine.specs.Fed.{fed};
@@ -31,6 +31,15 @@ fn do_end(buffer: &[u8], at: usize, height: usize, put: usize) -> Next
     }
 }
 
+// The opcode at `at`. The remainder is the opcode itself: it tells the compiler that `step` has an arm for every number there is, so that a
+// step needs no test whether the jump table has an entry.
+fn opcode_at(code: &[u8], at: usize) -> u8
+    requires { ⌜ at < length (now code) ⌝ ∗ ⌜ getD (now code) at 0 < 64 ⌝ }
+    ensures { λ r. ⌜ r ≡ getD (now (code .entry)) at 0 ⌝ }
+{
+    code[at] % 64
+}
+
 pub fn step<'a>(
     rows: &[[u8; 4]; 53],
     code: &[u8],
@@ -49,7 +58,7 @@ pub fn step<'a>(
     requires { ⌜ Place (now rows) (now code) (now cells) at height ⌝ ∗ ⌜ put ≤ length (now buffer) ⌝ ∗ ⌜ spansRefusal «image_first» (now image) «work_first» (now work) ≡ 0 ⌝ }
     ensures { λ r. ⌜ Did at (held (now (cells .entry)) height) (now (variables .entry)) (now (buffer .entry)) put (effect (fed (now (code .entry)) (now (registers .entry)) «image_first» (now (image .entry)) «work_first» (now (work .entry))) at (held (now (cells .entry)) height) (now (variables .entry)) (length (now (buffer .entry)) - put)) r (now (cells .exit)) (now (variables .exit)) (now (buffer .exit)) ⌝ }
 {
-    let opcode = code[at];
+    let opcode = opcode_at(code, at);
     match opcode {
         0x02 => operations::do_binary(rows, code, cells, 0x02, at, height, put),
         0x03 => operations::do_binary(rows, code, cells, 0x03, at, height, put),
@@ -199,11 +208,17 @@ pub fn step<'a>(
         0x2b => operations::do_swap(rows, code, cells, at, height, put),
         0x32 => operations::do_pick(rows, code, cells, at, height, put),
         0x33 => operations::do_rot(rows, code, cells, at, height, put),
-        0x00 => Next {
+        0x00 | 0x1b | 0x1d | 0x1f | 0x34 | 0x36 | 0x38 | 0x3a | 0x3c | 0x3e => Next {
             at,
             height,
             put,
             stop: 2,
+        },
+        0x01 | 0x1c | 0x1e | 0x31 | 0x35 | 0x37 | 0x39 | 0x3b | 0x3d | 0x3f => Next {
+            at,
+            height,
+            put,
+            stop: 3,
         },
         _ => Next {
             at,
