@@ -1,5 +1,4 @@
 -- The texts at document 01's example of a frame. Assumes nothing.
-use mathlib.Core.List.{[], _∷_}
 use mathlib.Core.Path.{_≡_, refl}
 use Rattle.encoding.specs.LittleEndian.{littleEndian}
 use Rattle.report.specs.Text.{bytesOf}
