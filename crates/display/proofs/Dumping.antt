@@ -1,18 +1,19 @@
 -- Laws of the lines that show bytes, for the proofs of the functions of `dump`, and that the bytes are read back. Assumes nothing.
-use Prim.Native.Nat.{ℕ, zero, suc, _+_, _-_, _%_, _^_, _≤_, _<_, min}
+use Prim.Native.Nat.{ℕ, zero, suc, _+_, _-_, _*_, _/_, _%_, _^_, _≤_, _<_, min}
 use native.Mathlib.Omega.{arith}
 use native.Mathlib.Numerals.{add-one}
 use mathlib.Core.List.{List, [], _∷_, _++_}
 use mathlib.Core.Path.{_≡_, refl, sym, ap, _∙_}
-use lib.Dec.{ltb}
-use lib.ListN.{length, take, drop, getD, length-take, length-drop}
-use lib.Seq.{take-all, take-nil, take-take, drop-cons, drop-drop}
+use lib.ListN.{length, take, drop, getD, length-append, length-take}
+use lib.Seq.{take-all, take-nil, take-take, take-at, drop-at, drop-cons, drop-drop}
 use borrow.Author.Tests.{lt-ltb, le-ltb, le-leb, lt-leb}
 use Rattle.encoding.proofs.Promises.{cases}
+use Rattle.io.specs.Digits.{digits, glyph}
 use Rattle.report.specs.Hex.{whole, after, readFrom, pairOf}
 use Rattle.report.specs.Text.{bytesOf}
-use Rattle.report.proofs.Promises.{drop-out, nothing-read, blank-read, pair-read}
+use Rattle.report.proofs.Promises.{append-assoc, drop-out, nothing-read, blank-read, pair-read}
 use Rattle.reader.specs.Read.{memoryRead}
+use Rattle.display.specs.Numbers.{hexText}
 use Rattle.display.specs.Dump.{cell, column, shownByte, shown, dumpLine, dumpText}
 
 -- ---- a character
@@ -116,3 +117,28 @@ column-back p (suc room) (suc n) (b ∷ l) low h g =
     blank-read p (suc room) (pairOf b ++ column n l)
     ∙ pair-read (p + 1) room b (column n l) (low 0)
     ∙ ap (after (b ∷ [])) (column-back (p + 1 + 2) room n l (λ j. low (suc j)) (omega (arith, h)) (omega (arith, g)))
+
+-- ---- where the column stands in the line
+pub digits-length : (b k v : ℕ) → length (digits b k v) ≡ k
+digits-length b zero v = refl
+digits-length b (suc k) v = length-append (digits b k (v / b)) (glyph (v % b) ∷ []) ∙ omega (arith, digits-length b k (v / b))
+
+cell-length : (l : List ℕ) → length (cell l) ≡ 3
+cell-length [] = refl
+cell-length (b ∷ l) = refl
+
+column-length : (n : ℕ) (l : List ℕ) → length (column n l) ≡ 3 * n
+unfolding column
+column-length zero l = refl
+column-length (suc n) l = length-append (cell l) (column n (drop 1 l)) ∙ omega (arith, cell-length l, column-length n (drop 1 l))
+
+pub column-in-line : (a : ℕ) (l : List ℕ) → take 48 (drop 21 (dumpLine a l)) ≡ column 16 l
+unfolding dumpLine hexText
+column-in-line a l =
+    let p = bytesOf "    " ++ digits 16 16 a ++ bytesOf " " in
+    let c = column 16 l in
+    let r = bytesOf "  |" ++ (shown l ++ bytesOf "|\n") in
+    let n : length p ≡ 21 = length-append (bytesOf "    " ++ digits 16 16 a) (bytesOf " ") ∙ omega (arith, length-append (bytesOf "    ") (digits 16 16 a), digits-length 16 16 a) in
+    let e : p ++ c ++ bytesOf "  |" ++ shown l ++ bytesOf "|\n" ≡ p ++ (c ++ r)
+    = append-assoc (p ++ c ++ bytesOf "  |") (shown l) (bytesOf "|\n") ∙ append-assoc (p ++ c) (bytesOf "  |") (shown l ++ bytesOf "|\n") ∙ append-assoc p c r in
+    ap (λ (m : List ℕ). take 48 (drop 21 m)) e ∙ ap (take 48) (drop-at p (c ++ r) 21 n) ∙ take-at c r 48 (column-length 16 l)

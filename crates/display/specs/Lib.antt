@@ -2,3 +2,4 @@
 pub mod Numbers
 pub mod Dump
 pub mod Lines
+mod Examples

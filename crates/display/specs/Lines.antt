@@ -1,7 +1,7 @@
 -- The lines for a frame, for a record, and for what was shown.
 use Prim.Native.Nat.{ℕ}
 use mathlib.Core.Bool.{cond}
-use mathlib.Core.List.{List, [], _++_}
+use mathlib.Core.List.{List, _++_}
 use lib.Dec.{eqb}
 use Rattle.report.specs.Text.{bytesOf}
 use Rattle.report.specs.Refusals.{refusalOf}

@@ -1,13 +1,13 @@
 -- Laws of the pieces of a trace file, for the proofs of the functions of `head` and `body`. Assumes nothing.
-use Prim.Native.Nat.{ℕ, zero, suc, _+_, _-_, _*_, _/_, _%_, _^_, _≤_, _<_}
+use Prim.Native.Nat.{ℕ, _+_, _-_, _%_, _^_, _≤_, _<_}
 use native.Mathlib.Nat.{mod-lt, div-add-mod', pow-le-pow-right}
 use native.Mathlib.Omega.{arith}
-use mathlib.Core.List.{List, [], _∷_, _++_}
+use mathlib.Core.List.{List, _++_}
 use mathlib.Core.Path.{_≡_, refl, sym, ap, _∙_}
 use lib.Dec.{lit<}
 use lib.ListN.{length, take, drop, length-append}
 use lib.Seq.{take-all}
-use Rattle.io.specs.Digits.{digits, glyph, Fewest}
+use Rattle.io.specs.Digits.{digits, Fewest}
 use Rattle.report.specs.Text.{Text, bytesOf}
 use Rattle.report.proofs.Promises.{append-assoc}
 use Rattle.encoding.specs.LittleEndian.{littleBytes}
@@ -16,6 +16,7 @@ use Rattle.encoding.proofs.Promises.{cases, length-little, written-read}
 use Rattle.listing.specs.Numbers.{decimal}
 use Rattle.frames.specs.Record.{memory, variable, encode}
 use Rattle.display.specs.Numbers.{hexText}
+use Rattle.display.proofs.Promises.{digits-length}
 use Rattle.tracefile.specs.Head.{nameText}
 
 -- ---- a number one higher, where 2^64 is written as 0 is
@@ -60,10 +61,6 @@ pub bytes-part : (l : List ℕ) (a n p : ℕ) → encode (memory a (take (p + n 
 bytes-part l a n p = let e : p + n - p ≡ n = omega arith in ap (λ (j : ℕ). encode (memory a (take j (drop p l)))) e
 
 -- ---- a name fits a small array whole
-digits-length : (k v : ℕ) → length (digits 10 k v) ≡ k
-digits-length zero v = refl
-digits-length (suc k) v = length-append (digits 10 k (v / 10)) (glyph (v % 10) ∷ []) ∙ omega (arith, digits-length k (v / 10))
-
 few : (v k : ℕ) → v < 2 ^ 64 → Fewest 10 1 v k → k ≤ 20
 few v k h w =
     cases 20 k
@@ -75,7 +72,7 @@ pub named : (b : List ℕ) (n v k : ℕ) → length b ≡ 24 → v < 2 ^ 64 → 
 unfolding nameText
 named b n v k long h w t u =
     let d = length-append (bytesOf "v") (digits 10 k v) in
-    let s = digits-length k v in
+    let s = digits-length 10 k v in
     let m = few v k h w in
     let inside : n < length b = omega (arith, t .most, d, s, m, long) in
     let z : n - 0 ≡ n = omega arith in

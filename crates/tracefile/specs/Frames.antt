@@ -3,7 +3,7 @@ use Prim.Native.Nat.{ℕ, zero, suc, _+_}
 use mathlib.Core.List.{List, [], _∷_, _++_}
 use lib.ListN.{length, take, drop}
 use Rattle.encoding.specs.LittleEndian.{littleBytes}
-use Rattle.frames.specs.Record.{Record, memory, variable, encode, encodeAll}
+use Rattle.frames.specs.Record.{Record, memory, variable, encode}
 use Rattle.reader.specs.Read.{Read, memoryRead, variableRead, refusedRead, Counted, counted, refusedCount, reading, counting}
 
 -- a record as it stands in the file: variable numbers are one higher there

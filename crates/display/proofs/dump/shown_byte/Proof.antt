@@ -1,5 +1,4 @@
 -- `display::dump::shown_byte` meets its contract. Assumes nothing.
-use borrow.Author.Needs.{needs}
 use native.Mathlib.Omega.{arith}
 use Rattle.display.proofs.Dumping.{shown-low, shown-itself, shown-high}
 use Rattle.display.proofs.dump.shown_byte.Statement.{statement}

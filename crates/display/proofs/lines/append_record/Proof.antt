@@ -1,6 +1,6 @@
 -- `display::lines::append_record` meets its contract. Assumes nothing.
 use borrow.Author.Needs.{needs}
-use mathlib.Core.Path.{_≡_, sym, ap, _∙_}
+use mathlib.Core.Path.{sym, ap, _∙_}
 use Rattle.report.proofs.Promises.{appends-same}
 use Rattle.reader.specs.Answers.{readOf}
 use Rattle.display.specs.Lines.{recordText}

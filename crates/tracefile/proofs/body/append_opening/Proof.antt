@@ -1,6 +1,6 @@
 -- `tracefile::body::append_opening` meets its contract. Assumes nothing.
 use borrow.Author.Needs.{needs}
-use mathlib.Core.Path.{_≡_, sym, ap, _∙_}
+use mathlib.Core.Path.{sym, ap, _∙_}
 use Rattle.report.proofs.Promises.{appends-same, one, more}
 use Rattle.encoding.specs.LittleEndian.{littleBytes}
 use Rattle.reader.specs.Answers.{countedOf}

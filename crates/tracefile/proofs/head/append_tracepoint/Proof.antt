@@ -1,6 +1,6 @@
 -- `tracefile::head::append_tracepoint` meets its contract. Assumes nothing.
 use borrow.Author.Needs.{needs}
-use mathlib.Core.Path.{_≡_, sym, ap, _∙_}
+use mathlib.Core.Path.{sym, ap, _∙_}
 use Rattle.report.proofs.Promises.{appends-same}
 use Rattle.reader.specs.Answers.{locatedOf}
 use Rattle.tracefile.specs.Head.{tracepointText}
