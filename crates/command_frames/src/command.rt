@@ -1,14 +1,13 @@
 // The command `frames`: lilivrez frames FILE [FRAME [RECORD]], and lilivrez frames FILE --gdb OUT. The file is the used part of a
 // trace buffer.
-ghost use mathlib.Core.Path.{_≡_};
-ghost use Prim.Native.Nat.{ℕ, _≤_};
-ghost use lib.ListN.{length};
 use crate::gdb;
 use crate::show::print_frames;
 use crate::show::print_one_frame;
 use crate::show::print_one_record;
+use files::Loaded;
 use output::print_error;
 use output::print_error_of;
+use words::numbers::Number;
 
 // ---- the words of the command
 // What is to be shown: all frames, a frame, or a record of a frame. Or all frames are to be written for GDB.
@@ -17,48 +16,6 @@ enum Asked {
     Export,
     Frame(u64),
     Record(u64, u64),
-}
-
-enum Number {
-    Value(u64),
-    Not,
-}
-
-// The value of a digit, and 10 for any other character.
-fn digit_of(c: u8) -> u64
-    ensures { λ r. ⌜ r ≤ 10 ⌝ }
-{
-    if c < b'0' {
-        return 10;
-    }
-    if b'9' < c {
-        return 10;
-    }
-    encoding::wide(c) - 48
-}
-
-fn number_of(word: &[u8]) -> Number {
-    if word.len() == 0 {
-        return Number::Not;
-    }
-    let mut value: u64 = 0;
-    let mut i = 0;
-    while i < word.len() {
-        let digit = digit_of(word[i]);
-        if 9 < digit {
-            return Number::Not;
-        }
-        if 1844674407370955161 < value {
-            return Number::Not;
-        }
-        let tens = value * 10;
-        if u64::MAX - tens < digit {
-            return Number::Not;
-        }
-        value = tens + digit;
-        i += 1;
-    }
-    Number::Value(value)
 }
 
 fn is_option(word: &[u8]) -> bool {
@@ -71,10 +28,15 @@ fn is_option(word: &[u8]) -> bool {
     word[1] == b'-'
 }
 
-// The number that a word of the command is; or none, and then the error is printed.
+// The number that a word of the command is; where it is none, the error is printed.
 fn read_number(word: &[u8]) -> Number {
-    match number_of(word) {
+    let number = words::numbers::unsigned(word, 10);
+    match number {
         Number::Value(v) => Number::Value(v),
+        Number::Large => {
+            print_error_of(word, b"the number is too large");
+            Number::Large
+        }
         Number::Not => {
             if is_option(word) {
                 print_error_of(word, b"unknown option: lilivrez help lists what there is");
@@ -113,50 +75,13 @@ fn show(buffer: &[u8], asked: Asked) {
     }
 }
 
-// What a file gave: so many bytes, a failed read, or more than the buffer has room for.
-enum Input {
-    Bytes(usize),
-    Failed,
-    TooLong,
-}
-
-fn read_all(fd: i32, bytes: &mut [u8]) -> Input
-    ensures { λ r. ⌜ ((n : ℕ) → r ≡ Input.Bytes n → n ≤ length (now (bytes .exit))) ⌝ }
-{
-    let mut n = 0;
-    while n < bytes.len() {
-        let got = libc::read(fd, &mut bytes[n..]);
-        if got < 0 {
-            return Input::Failed;
-        }
-        let more = io::count(got, &bytes[n..]);
-        if more == 0 {
-            return Input::Bytes(n);
-        }
-        n += more;
-    }
-    Input::TooLong
-}
-
-fn read_file(name: &[u8], bytes: &mut [u8]) -> Input
-    ensures { λ r. ⌜ ((n : ℕ) → r ≡ Input.Bytes n → n ≤ length (now (bytes .exit))) ⌝ }
-{
-    let fd = os::open_read(name);
-    if fd < 0 {
-        return Input::Failed;
-    }
-    let input = read_all(fd, bytes);
-    libc::close(fd);
-    input
-}
-
-// One byte more than a trace buffer can have tells a file that is too long.
 fn show_file(name: &[u8], asked: Asked) {
-    let mut bytes = [0u8; 65537];
-    match read_file(name, &mut bytes) {
-        Input::Bytes(n) => show(&bytes[0..n], asked),
-        Input::Failed => print_error_of(name, b"the file cannot be read"),
-        Input::TooLong => print_error_of(name, b"longer than 65536 bytes: a trace buffer is not"),
+    let mut bytes = io::large_buffer();
+    match files::load(name, &mut bytes) {
+        Loaded::Bytes(n) => show(&bytes[0..n], asked),
+        Loaded::NotOpened => print_error_of(name, b"the file cannot be opened"),
+        Loaded::NotRead => print_error_of(name, b"the file cannot be read"),
+        Loaded::TooLong => print_error_of(name, b"longer than 65536 bytes: a trace buffer is not"),
     }
 }
 
@@ -170,23 +95,23 @@ fn show_named(asked: Asked) {
     show_file(&name[..n], asked);
 }
 
+fn show_record(number: u64) {
+    match number_at(4) {
+        Number::Value(index) => show_named(Asked::Record(number, index)),
+        _ => return,
+    }
+}
+
 fn show_asked(count: usize) {
     match number_at(3) {
-        Number::Not => {
-            return;
-        }
         Number::Value(number) => {
             if count == 4 {
                 show_named(Asked::Frame(number));
                 return;
             }
-            match number_at(4) {
-                Number::Not => {
-                    return;
-                }
-                Number::Value(index) => show_named(Asked::Record(number, index)),
-            }
+            show_record(number);
         }
+        _ => return,
     }
 }
 

@@ -1,5 +1,7 @@
 // What came of a run, in lines.
 ghost use Rattle.io.specs.Counts.{Counts};
+use display::numbers::append_count;
+use display::numbers::append_value as append_cell;
 use output::print;
 use report::text::append;
 use report::text::append_number;
@@ -11,30 +13,8 @@ fn append_steps(out: &mut [u8], at: usize, steps: u64) -> usize
     ensures { λ r. ⌜ Counts r (now (out .exit)) ⌝ }
 {
     let a = append(out, at, b" after ");
-    let b = append_number(out, a, steps);
-    if steps == 1 {
-        return append(out, b, b" step: ");
-    }
-    append(out, b, b" steps: ")
-}
-
-// A number in hexadecimal, with no zeros in front.
-fn append_hex(out: &mut [u8], at: usize, number: u64) -> usize
-    ensures { λ r. ⌜ Counts r (now (out .exit)) ⌝ }
-{
-    let mut figures = [0u8; 16];
-    let k = io::hex(number, 1, &mut figures);
-    append(out, at, &figures[..k])
-}
-
-// DECIMAL (0xHEX)
-fn append_cell(out: &mut [u8], at: usize, number: u64) -> usize
-    ensures { λ r. ⌜ Counts r (now (out .exit)) ⌝ }
-{
-    let a = append_number(out, at, number);
-    let b = append(out, a, b" (0x");
-    let c = append_hex(out, b, number);
-    append(out, c, b")")
+    let b = append_count(out, a, steps, b"step");
+    append(out, b, b": ")
 }
 
 fn append_value(out: &mut [u8], at: usize, value: Value, beneath: &[u8]) -> usize
@@ -123,12 +103,7 @@ pub fn print_buffer(used: usize, size: usize) {
     let a = append(&mut line, 0, b"buffer: ");
     let b = append_number(&mut line, a, used as u64);
     let c = append(&mut line, b, b" of ");
-    let d = append_number(&mut line, c, size as u64);
-    if size == 1 {
-        let n = append(&mut line, d, b" byte used\n");
-        print(&line[..n]);
-        return;
-    }
-    let n = append(&mut line, d, b" bytes used\n");
+    let d = append_count(&mut line, c, size as u64, b"byte");
+    let n = append(&mut line, d, b" used\n");
     print(&line[..n]);
 }

@@ -1,7 +1,4 @@
 // The lines of a scenario, one after the other, up to the first that is wrong.
-use crate::files::Loaded;
-use crate::files::load;
-use crate::files::save;
 use crate::outcome::print_buffer;
 use crate::outcome::print_changes;
 use crate::outcome::print_completed;
@@ -14,6 +11,9 @@ use crate::setting::with_number;
 use crate::setting::with_span;
 use crate::setting::with_used;
 use command_frames::show::print_frame;
+use files::Loaded;
+use files::load;
+use files::save;
 use output::print_error;
 use output::print_error_at;
 use output::print_error_of;

@@ -3,11 +3,14 @@ use native.Mathlib.Omega.{arith}
 use Rattle.command_frames.proofs.command.show_file.Statement.{statement}
 use Rattle.command_frames.proofs.command.show_file.Tie as tie
 
-slice-aggregate-read-file : tie.Need-slice-aggregate-read-file
-slice-aggregate-read-file c = search needs
+large-buffer-requires : tie.Need-large-buffer-requires
+large-buffer-requires c κs = search needs
 
-read-file-requires : tie.Need-read-file-requires
-read-file-requires c κs = search needs
+slice-aggregate-load : tie.Need-slice-aggregate-load
+slice-aggregate-load c = search needs
+
+load-requires : tie.Need-load-requires
+load-requires c κs = search needs
 
 enum-known-n : tie.Need-enum-known-n
 enum-known-n c = search needs
@@ -19,7 +22,7 @@ part-show-start : tie.Need-part-show-start
 part-show-start c = search needs
 
 part-show-end : tie.Need-part-show-end
-part-show-end c = omega (arith, c .before .before .before .before .before .read-file .ensures _ (c .before .before .n .given .1))
+part-show-end c = omega (arith, c .before .before .before .before .before .load .ensures _ (c .before .before .n .given .1))
 
 show-requires : tie.Need-show-requires
 show-requires c κs = search needs
@@ -42,6 +45,15 @@ slice-aggregate-print-error-of-2 c = search needs
 print-error-of-requires-2 : tie.Need-print-error-of-requires-2
 print-error-of-requires-2 c κs = search needs
 
+enum-told-3 : tie.Need-enum-told-3
+enum-told-3 c = search needs
+
+slice-aggregate-print-error-of-3 : tie.Need-slice-aggregate-print-error-of-3
+slice-aggregate-print-error-of-3 c = search needs
+
+print-error-of-requires-3 : tie.Need-print-error-of-requires-3
+print-error-of-requires-3 c κs = search needs
+
 returns : tie.Need-returns
 returns c = search needs
 
@@ -51,12 +63,16 @@ returns-2 c = search needs
 returns-3 : tie.Need-returns-3
 returns-3 c = search needs
 
+returns-4 : tie.Need-returns-4
+returns-4 c = search needs
+
 pub show-file-spec : {M : Type 1} → statement M
 show-file-spec =
     tie.close
     (tie.spec
-    slice-aggregate-read-file
-    read-file-requires
+    large-buffer-requires
+    slice-aggregate-load
+    load-requires
     enum-known-n
     sub-show
     part-show-start
@@ -68,6 +84,10 @@ show-file-spec =
     enum-told-2
     slice-aggregate-print-error-of-2
     print-error-of-requires-2
+    enum-told-3
+    slice-aggregate-print-error-of-3
+    print-error-of-requires-3
     returns
     returns-2
-    returns-3)
+    returns-3
+    returns-4)

@@ -1,10 +1,10 @@
--- `command_frames::command::read_file` meets its contract: a failed open gives no bytes. Assumes nothing.
+-- A file that is not opened gives no bytes. Assumes nothing.
 use borrow.Author.Needs.{needs}
 use native.Mathlib.Omega.{arith}
 use Prim.Native.Nat.{ℕ}
 use mathlib.Core.Path.{_≡_}
-use Rattle.command_frames.proofs.command.read_file.Statement.{statement}
-use Rattle.command_frames.proofs.command.read_file.Tie as tie
+use Rattle.files.proofs.load.Statement.{statement}
+use Rattle.files.proofs.load.Tie as tie
 
 open-read-requires : tie.Need-open-read-requires
 open-read-requires c κs = search needs
@@ -24,7 +24,7 @@ same-length c = search needs
 returns-2 : tie.Need-returns-2
 returns-2 c = search needs
 
-pub read-file-spec : {M : Type 1} → statement M
-read-file-spec =
+pub load-spec : {M : Type 1} → statement M
+load-spec =
     tie.close
     (tie.spec open-read-requires returns read-all-requires close-requires same-length returns-2)

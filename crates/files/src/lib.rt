@@ -1,4 +1,7 @@
-// Files that a scenario names: read whole, and written.
+// Files that a command names: read whole, and written.
+ghost use mathlib.Core.Path.{_≡_};
+ghost use Prim.Native.Nat.{ℕ, _≤_};
+ghost use lib.ListN.{length};
 
 // A file's bytes, so many; or it cannot be opened, or read; or it has more bytes than there is room for.
 pub enum Loaded {
@@ -14,7 +17,9 @@ fn goes_on(fd: i32) -> bool {
     0 < libc::read(fd, &mut more)
 }
 
-fn read_all(fd: i32, bytes: &mut [u8]) -> Loaded {
+fn read_all(fd: i32, bytes: &mut [u8]) -> Loaded
+    ensures { λ r. ⌜ ((n : ℕ) → r ≡ Loaded.Bytes n → n ≤ length (now (bytes .exit))) ⌝ }
+{
     let mut n = 0;
     while n < bytes.len() {
         let got = libc::read(fd, &mut bytes[n..]);
@@ -34,7 +39,9 @@ fn read_all(fd: i32, bytes: &mut [u8]) -> Loaded {
 }
 
 // Puts the file's bytes at the start of `bytes`.
-pub fn load(name: &[u8], bytes: &mut [u8]) -> Loaded {
+pub fn load(name: &[u8], bytes: &mut [u8]) -> Loaded
+    ensures { λ r. ⌜ ((n : ℕ) → r ≡ Loaded.Bytes n → n ≤ length (now (bytes .exit))) ⌝ }
+{
     let fd = os::open_read(name);
     if fd < 0 {
         return Loaded::NotOpened;
