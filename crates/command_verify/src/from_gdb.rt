@@ -5,6 +5,7 @@ use crate::answer::answer;
 use listing::reading::Fault;
 use listing::reading::Read;
 use output::print;
+use output::print_error;
 use output::print_error_at;
 use std::num::wrapping_add_u64;
 
@@ -120,6 +121,10 @@ fn take_lines(bytes: &mut [u8]) -> Taken
     let mut end = 0;
     while number < u64::MAX {
         line = lines::next(&mut input, &mut text, line);
+        if line.is_failed {
+            print_error(b"standard input cannot be read");
+            return stopped(end);
+        }
         if !line.is_line {
             break;
         }

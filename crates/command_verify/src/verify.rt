@@ -56,6 +56,10 @@ fn verify_lines(is_listed: bool) {
     let mut number = 1;
     while number < u64::MAX {
         line = lines::next(&mut input, &mut text, line);
+        if line.is_failed {
+            print_error(b"standard input cannot be read");
+            break;
+        }
         if !line.is_line {
             break;
         }

@@ -6,10 +6,10 @@ use Rattle.command_verify.proofs.verify.verify_lines.Statement.{stateme
 use Rattle.command_verify.proofs.verify.verify_lines.Tie as tie
 
 abbrev Inv-loop : tie.InvT-loop
-Inv-loop is-listed input₀ text₀ line₀ number₀ input text line number = (length input ≡ 65536) × (length text ≡ 65536)
+Inv-loop is-listed input₀ text₀ line₀ number₀ t6 input text line number = (length input ≡ 65536) × (length text ≡ 65536)
 
 abbrev μ-loop : tie.MeasureT-loop
-μ-loop is-listed input₀ text₀ line₀ number₀ input text line number = 2 ^ 64 - number
+μ-loop is-listed input₀ text₀ line₀ number₀ t6 input text line number = 2 ^ 64 - number
 
 large-buffer-requires : tie.Need-large-buffer-requires Inv-loop μ-loop
 large-buffer-requires c κs = search needs
@@ -31,6 +31,12 @@ slice-aggregate-next-2 c = search needs
 
 next-requires : tie.Need-next-requires Inv-loop μ-loop
 next-requires c κs = search needs
+
+slice-aggregate-print-error : tie.Need-slice-aggregate-print-error Inv-loop μ-loop
+slice-aggregate-print-error c = search needs
+
+print-error-requires : tie.Need-print-error-requires Inv-loop μ-loop
+print-error-requires c κs = search needs
 
 slice-aggregate-verify-line : tie.Need-slice-aggregate-verify-line Inv-loop μ-loop
 slice-aggregate-verify-line c = search needs
@@ -56,6 +62,9 @@ returns-2 c = search needs
 returns-3 : tie.Need-returns-3 Inv-loop μ-loop
 returns-3 c = search needs
 
+returns-4 : tie.Need-returns-4 Inv-loop μ-loop
+returns-4 c = search needs
+
 pub verify-lines-spec : {M : Type 1} → statement M
 verify-lines-spec =
     tie.close
@@ -69,6 +78,8 @@ verify-lines-spec =
     slice-aggregate-next
     slice-aggregate-next-2
     next-requires
+    slice-aggregate-print-error
+    print-error-requires
     slice-aggregate-verify-line
     verify-line-requires
     add-number
@@ -76,4 +87,5 @@ verify-lines-spec =
     loop-again
     returns
     returns-2
-    returns-3)
+    returns-3
+    returns-4)
