@@ -71,8 +71,19 @@ fn is_help(word: &[u8]) -> bool {
     check::same(word, b"--help")
 }
 
+// Whether --help stands behind the command.
+fn asks_help() -> bool {
+    let mut word = [0u8; 8];
+    let n = os::arg(2, &mut word);
+    check::same(&word[..n], b"--help")
+}
+
 fn run_command(word: &[u8]) {
     if is_help(word) {
+        print_help();
+        return;
+    }
+    if asks_help() {
         print_help();
         return;
     }

@@ -13,7 +13,7 @@ use Rattle.io.specs.Digits.{digits, Fewest, glyph}
 use Rattle.encoding.proofs.Promises.{cases}
 use Rattle.report.specs.Hex.{digitOf}
 use Rattle.words.specs.Numbers.{isDigit, valueFrom}
-use Rattle.words.proofs.Leading.{all, all-append, both}
+use Rattle.words.proofs.Promises.{all, all-append, both}
 use Rattle.listing.specs.Numbers.{decimalBy, decimal}
 
 -- ---- one digit, or the digits before the last and the last

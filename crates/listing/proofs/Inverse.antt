@@ -21,9 +21,9 @@ use Rattle.listing.specs.Names.{nameOf, opcodeOf}
 use Rattle.words.specs.Words.{leading, isInWord, Word, firstWord, behind}
 use Rattle.words.specs.Numbers.{isDigit, limited, numberIn}
 use Rattle.words.specs.declared.numbers.Number.the-variants.{Value}
-use Rattle.words.proofs.Leading.{truth, all, stops, both, all-append, all-leading}
-use Rattle.words.proofs.Numbering.{limited-value, unsigned-all}
-use Rattle.words.proofs.Wording.{first-word, last-blanks}
+use Rattle.words.proofs.Promises.{truth, all, stops, both, all-append, all-leading}
+use Rattle.words.proofs.Promises.{limited-value, unsigned-all}
+use Rattle.words.proofs.Promises.{first-word, last-blanks}
 use Rattle.listing.specs.Numbers.{decimal, signed, negated, signedOf}
 use Rattle.listing.specs.Text.{aligned, operandText, textOf, textAt, isInstruction}
 use Rattle.listing.specs.Line.{operandsOf, byWord, ended, byNumber, operandBy, fromOperand, byOpcode, nameBy, fromName, byOffset, lineBy, readLine, lineBytes}

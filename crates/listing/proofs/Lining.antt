@@ -24,7 +24,7 @@ use Rattle.listing.specs.declared.reading.Fault.the-variants.{WrongOffse
 use Rattle.listing.specs.declared.reading.Line.{Line}
 use Rattle.listing.specs.declared.reading.Line.the-variants.{Nothing, Instruction, Wrong}
 use Rattle.listing.specs.declared.reading.Read.the-variants.{Bytes, NoRoom}
-use Rattle.words.proofs.Wording.{no-word, a-word}
+use Rattle.words.proofs.Promises.{no-word, a-word}
 use Rattle.listing.proofs.Opcodes.{below-at}
 
 -- ---- the line goes on behind a word as the code goes on

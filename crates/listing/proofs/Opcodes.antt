@@ -18,8 +18,8 @@ use Rattle.isa.specs.Document.{below}
 use Rattle.isa.proofs.Promises.{known-low}
 use Rattle.report.specs.Hex.{isBlank}
 use Rattle.words.specs.Words.{leading, isInWord, sameBytes, placeFrom}
-use Rattle.words.proofs.Leading.{all}
-use Rattle.words.proofs.Same.{same-sound}
+use Rattle.words.proofs.Promises.{all}
+use Rattle.words.proofs.Promises.{same-sound}
 use Rattle.listing.specs.Names.{names, nameOf, opcodeOf, table}
 
 -- ---- a test of every opcode below n

@@ -1,2 +1,3 @@
--- The work behind the contracts of src/.
+-- `Promises` is the page for users of this crate; the others hold the work behind it.
+pub mod Promises
 mod Reading

@@ -18,7 +18,7 @@ use Rattle.words.specs.Numbers.{numberOf}
 use Rattle.words.specs.declared.Place.{Place}
 use Rattle.words.specs.declared.numbers.Number.{Number}
 use Rattle.words.specs.declared.numbers.Number.the-variants.{Value, Large, Not}
-use Rattle.words.proofs.Wording.{no-word, a-word}
+use Rattle.words.proofs.Promises.{no-word, a-word}
 use Rattle.scenario.specs.Items.{opensComment, beforeComment, keywords, keywordOf, most, limitOf, wordFrom, isNone, ended, byNumber, numberFrom, thenBy, setFrom, pairFrom, fileFrom, sourceFrom, spanFrom, allowanceFrom, restOf, itemIn}
 use Rattle.scenario.specs.declared.Fault.{Fault}
 use Rattle.scenario.specs.declared.Fault.the-variants.{UnknownWord, MissingWord, NotNumber, TooLarge, LeftOver}

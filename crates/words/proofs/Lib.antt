@@ -1,5 +1,6 @@
--- Laws for users of this crate too: the contracts of src/ are the rest.
-pub mod Leading
-pub mod Numbering
-pub mod Same
-pub mod Wording
+-- `Promises` is the page for users of this crate; the others hold the work behind it.
+mod Leading
+mod Numbering
+mod Same
+mod Wording
+pub mod Promises
