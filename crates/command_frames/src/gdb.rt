@@ -123,6 +123,14 @@ fn write_file(fd: i32, buffer: &[u8], used: usize, frames: u64) -> bool {
 }
 
 // ---- what cannot be carried over
+fn note_file() {
+    print(
+        b"note: variables have numbers one higher in the file: $v0 is number 1, $v63 number 64\n",
+    );
+    print(b"note: the address of a tracepoint is its number in the file: no address is recorded\n");
+    print(b"note: GDB's tdump shows nothing: no collect commands are recorded; x and print do\n");
+}
+
 fn note(number: u64, what: &[u8]) {
     print(b"note: frame ");
     io::print_decimal(STDOUT_FILENO, number);
@@ -212,9 +220,7 @@ fn write_named(name: &[u8], buffer: &[u8], used: usize, frames: u64) {
         print_error_of(name, b"the file cannot be written");
         return;
     }
-    print(
-        b"note: variables have numbers one higher in the file: $v0 is number 1, $v63 number 64\n",
-    );
+    note_file();
     note_frames(buffer, used, frames);
     print_completed_frames(frames, 0);
 }

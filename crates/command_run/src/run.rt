@@ -1,8 +1,7 @@
 // The lines of a scenario, one after the other, up to the first that is wrong.
 use crate::outcome::print_buffer;
 use crate::outcome::print_changes;
-use crate::outcome::print_completed;
-use crate::outcome::print_refused;
+use crate::outcome::print_outcome;
 use crate::setting::Setting;
 use crate::setting::start;
 use crate::setting::stopped;
@@ -180,16 +179,16 @@ fn run_code<'a>(
     buffer: &mut [u8],
 ) -> Setting {
     let before = *variables;
-    match run_given(code, setting, registers, image, memory, variables, buffer) {
+    let outcome = run_given(code, setting, registers, image, memory, variables, buffer);
+    print_outcome(outcome);
+    match outcome {
         Outcome::Completed(value, steps, used) => {
-            print_completed(value, steps);
             print_changes(&before, variables);
             print_frame(buffer, used, 0);
             print_buffer(used, buffer.len());
             with_used(setting, used)
         }
         Outcome::Refused(number, offset, steps) => {
-            print_refused(number, offset, steps);
             print_buffer(setting.used, buffer.len());
             setting
         }

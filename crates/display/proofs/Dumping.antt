@@ -8,12 +8,13 @@ use lib.ListN.{length, take, drop, getD, length-append, length-take}
 use lib.Seq.{take-all, take-nil, take-take, take-at, drop-at, drop-cons, drop-drop}
 use borrow.Author.Tests.{lt-ltb, le-ltb, le-leb, lt-leb}
 use Rattle.encoding.proofs.Promises.{cases}
-use Rattle.io.specs.Digits.{digits, glyph}
+use Rattle.io.specs.Digits.{digits}
 use Rattle.report.specs.Hex.{whole, after, readFrom, pairOf}
 use Rattle.report.specs.Text.{bytesOf}
 use Rattle.report.proofs.Promises.{append-assoc, drop-out, nothing-read, blank-read, pair-read}
 use Rattle.reader.specs.Read.{memoryRead}
-use Rattle.display.specs.Numbers.{hexText}
+use Rattle.phrases.specs.Numbers.{hexText}
+use Rattle.phrases.proofs.Promises.{digits-length}
 use Rattle.display.specs.Dump.{cell, column, shownByte, shown, dumpLine, dumpText}
 
 -- ---- a character
@@ -119,10 +120,6 @@ column-back p (suc room) (suc n) (b ∷ l) low h g =
     ∙ ap (after (b ∷ [])) (column-back (p + 1 + 2) room n l (λ j. low (suc j)) (omega (arith, h)) (omega (arith, g)))
 
 -- ---- where the column stands in the line
-pub digits-length : (b k v : ℕ) → length (digits b k v) ≡ k
-digits-length b zero v = refl
-digits-length b (suc k) v = length-append (digits b k (v / b)) (glyph (v % b) ∷ []) ∙ omega (arith, digits-length b k (v / b))
-
 cell-length : (l : List ℕ) → length (cell l) ≡ 3
 cell-length [] = refl
 cell-length (b ∷ l) = refl

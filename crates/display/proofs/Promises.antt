@@ -4,7 +4,6 @@ use mathlib.Core.List.{List, _∷_, _++_}
 use mathlib.Core.Path.{_≡_, ap, _∙_}
 use lib.ListN.{length, take, drop, getD}
 use borrow.Author.Tests.{lt-ltb}
-use Rattle.io.specs.Digits.{digits}
 use Rattle.report.specs.Hex.{whole, readingOf}
 use Rattle.encoding.specs.Written.{writtenAt}
 use Rattle.frames.specs.Record.{Record, memory, AllWellFormed}
@@ -13,10 +12,6 @@ use Rattle.reader.specs.Read.{Read, reading}
 use Rattle.reader.proofs.Promises.{newest-record, newest-bytes}
 use Rattle.display.specs.Dump.{dumpLine, dumpText}
 use Rattle.display.proofs.Dumping as dumping
-
--- k digits are k characters
-pub digits-length : (b k v : ℕ) → length (digits b k v) ≡ k
-digits-length = dumping.digits-length
 
 -- characters 21 to 68 of a dump line are its hexadecimal column; read back, they are the bytes of the line
 pub line-read-back : (address : ℕ) (l : List ℕ) (room : ℕ) → ((j : ℕ) → getD l j 0 < 256) → length l ≤ 16 → length l ≤ room

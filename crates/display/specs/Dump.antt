@@ -7,7 +7,7 @@ use lib.ListN.{take, drop}
 use Rattle.report.specs.Hex.{isBetween, pairOf}
 use Rattle.report.specs.Text.{bytesOf}
 use Rattle.reader.specs.Read.{Read, memoryRead, variableRead, refusedRead}
-use Rattle.display.specs.Numbers.{hexText}
+use Rattle.phrases.specs.Numbers.{hexText}
 
 -- a blank and the two digits of a byte; three blanks where there is no byte
 abbrev pub cell : List ℕ → List ℕ

@@ -9,7 +9,8 @@ use Rattle.frames.specs.Division.{divideAtMost, divide}
 use Rattle.frames.specs.Trailer.{decodeTrailer}
 use Rattle.reader.specs.Located.{frameBefore, frameBack, located}
 use Rattle.reader.specs.Read.{variableRead, reading, counting, refusedCount}
-use Rattle.display.specs.Numbers.{countText, hexText, significant, valueText}
+use Rattle.phrases.specs.Numbers.{countText, hexText, significant, valueText}
+use Rattle.phrases.specs.Refused.{refusedAt}
 use Rattle.display.specs.Dump.{column, shownByte, shown, dumpLine, dumpText}
 use Rattle.display.specs.Lines.{refusedText, noFrameText, someFrameText, memoryText, variableText, frameText, recordText, completedText}
 
@@ -29,8 +30,8 @@ a-variable : recordText 0 1 (variableRead 7 3 42) ≡ bytesOf "  record 1: varia
 unfolding decimalBy decimal hexText significant valueText variableText recordText
 a-variable = refl
 
-a-refusal : frameText 1 (refusedCount 22 5) ≡ bytesOf "refused 22 at offset 5: the trailer of the frame is broken (asked: frame 1)\n"
-unfolding decimalBy decimal refusedText noFrameText frameText
+a-refusal : frameText 1 (refusedCount 22 5) ≡ bytesOf "refused 22 at offset 5: the trailer of the frame is broken\n  asked: frame 1\n"
+unfolding decimalBy decimal refusedAt refusedText noFrameText frameText
 a-refusal = refl
 
 the-end : completedText 3 (bytesOf "frame") 1 ≡ bytesOf "completed: 3 frames, 1 of them refused\n"

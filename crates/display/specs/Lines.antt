@@ -7,19 +7,20 @@ use Rattle.report.specs.Text.{bytesOf}
 use Rattle.report.specs.Refusals.{refusalOf}
 use Rattle.listing.specs.Numbers.{decimal}
 use Rattle.reader.specs.Read.{Read, memoryRead, variableRead, refusedRead, Counted, counted, refusedCount}
-use Rattle.display.specs.Numbers.{countText, hexText, valueText}
+use Rattle.phrases.specs.Numbers.{countText, hexText, valueText}
+use Rattle.phrases.specs.Refused.{refusedAt}
 
 -- `refused N at offset K: WORDS`
 unfoldable pub refusedText : ℕ → ℕ → List ℕ
-refusedText r k = bytesOf "refused " ++ decimal r ++ bytesOf " at offset " ++ decimal k ++ bytesOf ": " ++ bytesOf (refusalOf r)
+refusedText r k = refusedAt r k ++ bytesOf ": " ++ bytesOf (refusalOf r)
 
 -- a refusal shows what was asked for
 unfoldable pub noFrameText : ℕ → ℕ → ℕ → List ℕ
-noFrameText r k number = refusedText r k ++ bytesOf " (asked: frame " ++ decimal number ++ bytesOf ")\n"
+noFrameText r k number = refusedText r k ++ bytesOf "\n  asked: frame " ++ decimal number ++ bytesOf "\n"
 
 unfoldable pub noRecordText : ℕ → ℕ → ℕ → ℕ → List ℕ
 noRecordText r k number index =
-    refusedText r k ++ bytesOf " (asked: frame " ++ decimal number ++ bytesOf ", record " ++ decimal index ++ bytesOf ")\n"
+    refusedText r k ++ bytesOf "\n  asked: frame " ++ decimal number ++ bytesOf ", record " ++ decimal index ++ bytesOf "\n"
 
 -- a frame of so many records, which have so many bytes
 unfoldable pub someFrameText : ℕ → ℕ → ℕ → ℕ → List ℕ

@@ -6,7 +6,7 @@ ghost use Rattle.io.specs.Counts.{Counts};
 ghost use Rattle.report.specs.Text.{Appends};
 ghost use Rattle.reader.specs.Read.{reading};
 ghost use Rattle.display.specs.Dump.{cell, column, shownByte, shown, dumpLine, dumpText};
-use crate::numbers::append_address;
+use phrases::numbers::append_address;
 use reader::Reading;
 use report::hex::append_byte;
 use report::text::append;

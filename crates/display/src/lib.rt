@@ -2,4 +2,3 @@
 // `report::text` do: `at` is where the text so far ends, and the answer is where it ends then.
 pub mod dump;
 pub mod lines;
-pub mod numbers;

@@ -3,9 +3,10 @@ ghost use Rattle.io.specs.Counts.{Counts};
 ghost use Rattle.report.specs.Text.{Appends};
 ghost use Rattle.reader.specs.Read.{reading, counting};
 ghost use Rattle.display.specs.Lines.{refusedText, noFrameText, noRecordText, someFrameText, memoryText, variableText, frameText, recordText, completedText};
-use crate::numbers::append_address;
-use crate::numbers::append_count;
-use crate::numbers::append_value;
+use phrases::numbers::append_address;
+use phrases::numbers::append_count;
+use phrases::numbers::append_value;
+use phrases::refused::append_refused_at;
 use reader::Count;
 use reader::Reading;
 use report::text::append;
@@ -17,12 +18,9 @@ fn append_refused(out: &mut [u8], at: usize, refusal: u8, offset: usize) -> usiz
     ensures count { λ r. ⌜ Counts r (now (out .exit)) ⌝ }
     ensures text { λ r. ⌜ Appends (now (out .entry)) at (refusedText refusal offset) (now (out .exit)) r ⌝ }
 {
-    let a = append(out, at, b"refused ");
-    let b = append_number(out, a, refusal as u64);
-    let c = append(out, b, b" at offset ");
-    let d = append_number(out, c, offset as u64);
-    let e = append(out, d, b": ");
-    append_refusal(out, e, refusal)
+    let a = append_refused_at(out, at, refusal, offset);
+    let b = append(out, a, b": ");
+    append_refusal(out, b, refusal)
 }
 
 fn append_no_frame(out: &mut [u8], at: usize, refusal: u8, offset: usize, number: u64) -> usize
@@ -30,9 +28,9 @@ fn append_no_frame(out: &mut [u8], at: usize, refusal: u8, offset: usize, number
     ensures text { λ r. ⌜ Appends (now (out .entry)) at (noFrameText refusal offset number) (now (out .exit)) r ⌝ }
 {
     let a = append_refused(out, at, refusal, offset);
-    let b = append(out, a, b" (asked: frame ");
+    let b = append(out, a, b"\n  asked: frame ");
     let c = append_number(out, b, number);
-    append(out, c, b")\n")
+    append(out, c, b"\n")
 }
 
 fn append_no_record(
@@ -47,11 +45,11 @@ fn append_no_record(
     ensures text { λ r. ⌜ Appends (now (out .entry)) at (noRecordText refusal offset number index) (now (out .exit)) r ⌝ }
 {
     let a = append_refused(out, at, refusal, offset);
-    let b = append(out, a, b" (asked: frame ");
+    let b = append(out, a, b"\n  asked: frame ");
     let c = append_number(out, b, number);
     let d = append(out, c, b", record ");
     let e = append_number(out, d, index);
-    append(out, e, b")\n")
+    append(out, e, b"\n")
 }
 
 fn append_some_frame(

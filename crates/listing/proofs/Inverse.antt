@@ -288,7 +288,7 @@ module _ (e : List ℕ) (low : (j : ℕ) → getD e j 0 < 256) where
   lines-back (k ∷ ks) t =
       let i = instructed e k (truth (isInstruction e k) (and-left (isInstruction e k) (allInstructions e ks) t)) in
       let f = ((aligned (decimal k) ++ (32 ∷ 32 ∷ [])) ++ nameOf (getD e k 0)) ++ operandText (operandBytes e k) (operand e k) in
-      let q : f ++ (10 ∷ []) ≡ textAt e k = text-parts e k (getD e k 0) (operandBytes e k) (operand e k) refl refl refl in
+      let q : f ++ (10 ∷ []) ≡ textAt e k = text-parts e k in
       let r = joined (map (textAt e) ks) in
       ap (λ (l : List ℕ). linesOf (l ++ r)) (sym q) ∙ line-divided f r (feedless k i) ∙ ap (λ (l : List ℕ). l ∷ linesOf r) q
       ∙ ap (λ (ls : List (List ℕ)). textAt e k ∷ ls) (lines-back ks (and-right (isInstruction e k) (allInstructions e ks) t))

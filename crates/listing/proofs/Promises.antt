@@ -2,7 +2,7 @@
 use mathlib.Core.Bool.{true}
 use mathlib.Core.List.{List}
 use mathlib.Core.Path.{_≡_, refl, ap, _∙_}
-use Prim.Native.Nat.{ℕ, _+_, _^_, _<_}
+use Prim.Native.Nat.{ℕ, _+_, _^_, _≤_, _<_}
 use lib.Dec.{T}
 use lib.ListN.{length, take, drop, getD}
 use Rattle.io.specs.Digits.{digits, Fewest}
@@ -15,6 +15,7 @@ use Rattle.listing.specs.Text.{textOf, textAt, isInstruction}
 use Rattle.listing.specs.Line.{operandsOf, readLine, lineBytes}
 use Rattle.listing.specs.Listing.{listing, allInstructions, bytes, readLines, listingText, readText}
 use Rattle.listing.specs.declared.reading.Line.the-variants.{Instruction}
+use Rattle.listing.proofs.Decimals as decimals
 use Rattle.listing.proofs.Inverse as inverse
 use Rattle.listing.proofs.Opcodes.{good-name}
 use Rattle.listing.proofs.Texting as texting
@@ -41,3 +42,11 @@ listing-text-read-back e low h t = inverse.text-back e low h t
 -- a number, as `report::text::append_number` ensures it, is appended in decimal
 pub appends-number : {b b' : List ℕ} {n n' : ℕ} (v : ℕ) → ((k : ℕ) × Fewest 10 1 v k × Appends b n (digits 10 k v) b' n') → Appends b n (decimal v) b' n'
 appends-number v p = texting.appends-number v p
+
+-- the fewest digits of a number are its decimal text
+pub digits-decimal : (k v : ℕ) → Fewest 10 1 v k → digits 10 k v ≡ decimal v
+digits-decimal = decimals.fewest-decimal
+
+-- a word of 64 bits has at most 20 digits
+pub decimal-length : (v : ℕ) → v < 2 ^ 64 → length (decimal v) ≤ 20
+decimal-length = texting.decimal-twenty

@@ -12,14 +12,14 @@ use borrow.Author.Tests.{eq-eqb, ne-eqb, lt-ltb, le-ltb, le-leb, lt-leb, ltb-tru
 use Rattle.io.specs.Digits.{digits, Fewest}
 use Rattle.report.specs.Text.{Text, Appends}
 use Rattle.encoding.specs.Written.{writtenAt}
-use Rattle.encoding.proofs.Promises.{written-length, no-true, cases}
+use Rattle.encoding.proofs.Promises.{big-below, written-length, no-true, cases}
 use Rattle.isa.specs.Classes.{kind-unsupported}
 use Rattle.isa.specs.Decode.{kindAt, operandBytes, operand, next}
 use Rattle.isa.proofs.Promises.{operands-most}
 use Rattle.report.proofs.Promises.{append-assoc, appends-same}
 use Rattle.listing.specs.Names.{nameOf}
 use Rattle.listing.specs.Numbers.{decimal, signed}
-use Rattle.listing.specs.Text.{aligned, operandText, textOf, textAt, isInstruction, writtenAnswer, writtenLeft}
+use Rattle.listing.specs.Text.{aligned, operandText, textOf, textAt, namedAt, isInstruction, plainAt, writtenAnswer, writtenLeft}
 use Rattle.listing.specs.declared.writing.Written.{Written}
 use Rattle.listing.specs.declared.writing.Written.the-variants.{Text as Written·text, NoInstruction, NoRoom}
 use Rattle.listing.proofs.Decimals.{fewest-decimal, decimal-some, decimal-most, decimal-least}
@@ -108,20 +108,44 @@ instructed e k q =
     }
 
 -- ---- the parts of a text
-pub text-parts : (e : List ℕ) (k op count v : ℕ) → op ≡ getD e k 0 → count ≡ operandBytes e k → v ≡ operand e k
-    → (((aligned (decimal k) ++ (32 ∷ 32 ∷ [])) ++ nameOf op) ++ operandText count v) ++ (10 ∷ []) ≡ textAt e k
+pub named-parts : (e : List ℕ) (k op count v : ℕ) → op ≡ getD e k 0 → count ≡ operandBytes e k → v ≡ operand e k
+    → nameOf op ++ operandText count v ≡ namedAt e k
+unfolding namedAt
+named-parts e k op count v o n x =
+    ap (λ (i : ℕ). nameOf i ++ operandText count v) o
+    ∙ ap (λ (i : ℕ). nameOf (getD e k 0) ++ operandText i v) n
+    ∙ ap (λ (i : ℕ). nameOf (getD e k 0) ++ operandText (operandBytes e k) i) x
+
+pub text-parts : (e : List ℕ) (k : ℕ)
+    → (((aligned (decimal k) ++ (32 ∷ 32 ∷ [])) ++ nameOf (getD e k 0)) ++ operandText (operandBytes e k) (operand e k)) ++ (10 ∷ []) ≡ textAt e k
 unfolding textAt textOf
-text-parts e k op count v o n x =
+text-parts e k =
     let a = aligned (decimal k) in
     let s : List ℕ = 32 ∷ 32 ∷ [] in
-    let m = nameOf op in
-    let p = operandText count v in
+    let m = nameOf (getD e k 0) in
+    let p = operandText (operandBytes e k) (operand e k) in
     let l : List ℕ = 10 ∷ [] in
     append-assoc ((a ++ s) ++ m) p l ∙ append-assoc (a ++ s) m (p ++ l) ∙ append-assoc a s (m ++ (p ++ l))
-    ∙ ap (λ (i : ℕ). textOf k i count v) o ∙ ap (λ (i : ℕ). textOf k (getD e k 0) i v) n ∙ ap (λ (i : ℕ). textOf k (getD e k 0) (operandBytes e k) i) x
+
+pub text-named : (e : List ℕ) (k : ℕ) → ((aligned (decimal k) ++ (32 ∷ 32 ∷ [])) ++ namedAt e k) ++ (10 ∷ []) ≡ textAt e k
+unfolding namedAt
+text-named e k =
+    let f = aligned (decimal k) ++ (32 ∷ 32 ∷ []) in
+    let m = nameOf (getD e k 0) in
+    let p = operandText (operandBytes e k) (operand e k) in
+    ap (λ (t : List ℕ). t ++ (10 ∷ [])) (sym (append-assoc f m p)) ∙ text-parts e k
+
+-- ---- for any offset
+pub plain-none : (e : List ℕ) (k : ℕ) → isInstruction e k ≡ false → [] ≡ plainAt e k
+unfolding plainAt
+plain-none e k q = rw q
+
+pub plain-some : (e : List ℕ) (k : ℕ) → isInstruction e k ≡ true → namedAt e k ≡ plainAt e k
+unfolding plainAt
+plain-some e k q = rw q
 
 -- ---- a text is short
-decimal-twenty : (v : ℕ) → v < 2 ^ 64 → length (decimal v) ≤ 20
+pub decimal-twenty : (v : ℕ) → v < 2 ^ 64 → length (decimal v) ≤ 20
 decimal-twenty v h = decimal-most v 19 (omega (arith, h))
 
 aligned-length : (v : ℕ) → v < 2 ^ 64 → length (aligned (decimal v)) ≤ 23
@@ -141,12 +165,12 @@ operand-length count v h =
     (λ g. omega (arith, ap length (operand-some count v (λ z. omega arith)), signed-length v h))
     (λ l. omega (arith, ap length (operand-none count v (omega arith))))
 
-pub text-length : (e : List ℕ) (k : ℕ) → Instructed e k → k < 2 ^ 64 → (v : ℕ) → v ≡ operand e k → v < 256 ^ operandBytes e k → length (textAt e k) < 64
-unfolding textAt textOf
-text-length e k i h v is w =
+pub text-length : (e : List ℕ) (k : ℕ) → Instructed e k → k < 2 ^ 64 → ((j : ℕ) → getD e j 0 < 256) → length (textAt e k) < 64
+unfolding operand textAt textOf
+text-length e k i h low =
     let s = i .supported in
     let p = pow-le-pow-right (lit< {m = 0} {n = 256} tt) (operands-most (getD e k 0)) in
-    let l : operand e k < 2 ^ 64 = omega (arith, is, w, p) in
+    let l : operand e k < 2 ^ 64 = omega (arith, big-below e (k + 1) (operandBytes e k) low, p) in
     let n = nameOf (getD e k 0) in
     let q = operandText (operandBytes e k) (operand e k) in
     omega (

@@ -26,9 +26,17 @@ textOf at op count v = aligned (decimal at) ++ ((32 ∷ 32 ∷ []) ++ (nameOf op
 unfoldable pub textAt : List ℕ → ℕ → List ℕ
 textAt e k = textOf k (getD e k 0) (operandBytes e k) (operand e k)
 
+-- the same without the offset: `const8 5`
+unfoldable pub namedAt : List ℕ → ℕ → List ℕ
+namedAt e k = nameOf (getD e k 0) ++ operandText (operandBytes e k) (operand e k)
+
 -- a supported instruction starts at k, and its operand bytes are there
 unfoldable pub isInstruction : List ℕ → ℕ → Bool
 isInstruction e k = ltb k (length e) && ltb kind-unsupported (kindAt e k) && leb (next e k) (length e)
+
+-- for any offset: nothing where no instruction starts
+unfoldable pub plainAt : List ℕ → ℕ → List ℕ
+plainAt e k = cond (isInstruction e k) (namedAt e k) []
 
 -- ---- `write_instruction`: its answer, and the buffer o that it leaves
 unfoldable pub writtenAnswer : List ℕ → ℕ → List ℕ → Written

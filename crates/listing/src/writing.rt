@@ -5,7 +5,7 @@ ghost use Prim.Native.Nat.{ℕ, _<_, _≤_};
 ghost use lib.ListN.{length};
 ghost use Rattle.report.specs.Text.{Appends};
 ghost use Rattle.listing.specs.Numbers.{decimal, signed};
-ghost use Rattle.listing.specs.Text.{aligned, operandText, textAt, isInstruction, writtenAnswer, writtenLeft};
+ghost use Rattle.listing.specs.Text.{aligned, operandText, namedAt, textAt, isInstruction, plainAt, writtenAnswer, writtenLeft};
 use crate::names::append_name;
 use report::text::append;
 use report::text::append_number;
@@ -52,7 +52,8 @@ fn append_operand(out: &mut [u8], at: usize, count: usize, value: u64) -> usize
     append_signed(out, behind, value)
 }
 
-fn is_instruction(code: &[u8], at: usize) -> bool
+// Whether a supported instruction starts at an offset, with all its bytes.
+pub fn is_instruction(code: &[u8], at: usize) -> bool
     ensures { λ r. ⌜ r ≡ isInstruction (now (code .entry)) at ⌝ }
 {
     if code.len() <= at {
@@ -66,19 +67,37 @@ fn is_instruction(code: &[u8], at: usize) -> bool
     count < code.len() - at
 }
 
+// The instruction at an offset without the offset: `const8 5`.
+fn append_named(out: &mut [u8], at: usize, code: &[u8], offset: usize) -> usize
+    requires { ⌜ isInstruction (now code) offset ≡ true ⌝ }
+    ensures { λ r. ⌜ Appends (now (out .entry)) at (namedAt (now (code .entry)) offset) (now (out .exit)) r ⌝ }
+{
+    let opcode = code[offset];
+    let count = isa::look_up(opcode).operands as usize;
+    let operand = isa::operand_at(code, offset, count);
+    let a = append_name(out, at, opcode);
+    append_operand(out, a, count, operand)
+}
+
+// The same for any offset: nothing where no instruction starts.
+pub fn append_plain(out: &mut [u8], at: usize, code: &[u8], offset: usize) -> usize
+    ensures { λ r. ⌜ Appends (now (out .entry)) at (plainAt (now (code .entry)) offset) (now (out .exit)) r ⌝ }
+{
+    if !is_instruction(code, offset) {
+        return append(out, at, b"");
+    }
+    append_named(out, at, code, offset)
+}
+
 fn append_instruction(out: &mut [u8], code: &[u8], at: usize) -> usize
     requires { ⌜ isInstruction (now code) at ≡ true ⌝ }
     ensures text { λ r. ⌜ Appends (now (out .entry)) 0 (textAt (now (code .entry)) at) (now (out .exit)) r ⌝ }
     ensures short { λ _. ⌜ length (textAt (now (code .entry)) at) < 64 ⌝ }
 {
-    let opcode = code[at];
-    let count = isa::look_up(opcode).operands as usize;
-    let operand = isa::operand_at(code, at, count);
     let a = append_offset(out, 0, at as u64);
     let b = append(out, a, b"  ");
-    let c = append_name(out, b, opcode);
-    let d = append_operand(out, c, count, operand);
-    append(out, d, b"\n")
+    let c = append_named(out, b, code, at);
+    append(out, c, b"\n")
 }
 
 // Puts the text of the instruction at offset `at` at the start of `out`.

@@ -15,10 +15,10 @@ refusals =
     "ext 0, or a variable number above 63" ∷
     "the jump is not to the start of an instruction" ∷
     "the jump is not forward" ∷
-    "paths meet here with different stack heights" ∷
+    "paths meet here with unequal stack heights" ∷
     "too few cells on the stack for this instruction" ∷
     "more than 64 cells on the stack" ∷
-    "the bytes run out before an end instruction" ∷
+    "the bytes end before an end instruction" ∷
     "a memory span reaches past the last address" ∷
     "the two memory spans overlap" ∷
     "more than 256 registers" ∷

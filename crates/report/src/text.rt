@@ -61,10 +61,10 @@ fn append_flow(out: &mut [u8], at: usize, number: u8) -> usize
     match number {
         6 => append(out, at, b"the jump is not to the start of an instruction"),
         7 => append(out, at, b"the jump is not forward"),
-        8 => append(out, at, b"paths meet here with different stack heights"),
+        8 => append(out, at, b"paths meet here with unequal stack heights"),
         9 => append(out, at, b"too few cells on the stack for this instruction"),
         10 => append(out, at, b"more than 64 cells on the stack"),
-        _ => append(out, at, b"the bytes run out before an end instruction"),
+        _ => append(out, at, b"the bytes end before an end instruction"),
     }
 }
 

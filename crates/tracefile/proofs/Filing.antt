@@ -15,8 +15,8 @@ use Rattle.encoding.specs.Written.{writtenAt}
 use Rattle.encoding.proofs.Promises.{cases, length-little, written-read}
 use Rattle.listing.specs.Numbers.{decimal}
 use Rattle.frames.specs.Record.{memory, variable, encode}
-use Rattle.display.specs.Numbers.{hexText}
-use Rattle.display.proofs.Promises.{digits-length}
+use Rattle.phrases.specs.Numbers.{hexText}
+use Rattle.phrases.proofs.Promises.{digits-length}
 use Rattle.tracefile.specs.Head.{nameText}
 
 -- ---- a number one higher, where 2^64 is written as 0 is

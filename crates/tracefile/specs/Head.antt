@@ -4,7 +4,7 @@ use mathlib.Core.List.{List, [], _∷_, _++_}
 use Rattle.report.specs.Hex.{hexOf}
 use Rattle.report.specs.Text.{bytesOf}
 use Rattle.listing.specs.Numbers.{decimal}
-use Rattle.display.specs.Numbers.{hexText}
+use Rattle.phrases.specs.Numbers.{hexText}
 use Rattle.reader.specs.Located.{Located, frame, refused}
 
 -- the mark of the file; the size of a block of registers, which no frame has; and the state, with the number of frames

@@ -4,7 +4,7 @@ ghost use Rattle.report.specs.Hex.{hexOf};
 ghost use Rattle.report.specs.Text.{Appends};
 ghost use Rattle.reader.specs.Located.{located};
 ghost use Rattle.tracefile.specs.Head.{startText, nameText, variableText, pointText, tracepointText, targetText};
-use display::numbers::append_address;
+use phrases::numbers::append_address;
 use reader::Place;
 use report::hex::encode;
 use report::text::append;

@@ -3,7 +3,7 @@ use borrow.Author.Needs.{needs}
 use denote.Ref.{now}
 use Rattle.report.proofs.Promises.{one, more}
 use Rattle.report.specs.Text.{bytesOf}
-use Rattle.display.specs.Numbers.{hexText}
+use Rattle.phrases.specs.Numbers.{hexText}
 use Rattle.display.specs.Dump.{column, shown, dumpLine}
 use Rattle.display.proofs.dump.append_line.Statement.{statement}
 use Rattle.display.proofs.dump.append_line.Tie as tie

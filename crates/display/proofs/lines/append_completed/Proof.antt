@@ -5,8 +5,8 @@ use Rattle.report.proofs.Promises.{appends-same, one, more}
 use Rattle.report.specs.Text.{bytesOf}
 use Rattle.listing.specs.Numbers.{decimal}
 use Rattle.listing.proofs.Promises.{appends-number}
-use Rattle.display.specs.Numbers.{countText}
-use Rattle.display.proofs.Numbering.{completed-all, completed-some}
+use Rattle.phrases.specs.Numbers.{countText}
+use Rattle.display.proofs.Completing.{completed-all, completed-some}
 use Rattle.display.proofs.lines.append_completed.Statement.{statement}
 use Rattle.display.proofs.lines.append_completed.Tie as tie
 

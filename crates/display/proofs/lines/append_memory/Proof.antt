@@ -4,7 +4,7 @@ use Rattle.report.proofs.Promises.{one, more}
 use Rattle.report.specs.Text.{bytesOf}
 use Rattle.listing.specs.Numbers.{decimal}
 use Rattle.listing.proofs.Promises.{appends-number}
-use Rattle.display.specs.Numbers.{countText, hexText}
+use Rattle.phrases.specs.Numbers.{countText, hexText}
 use Rattle.display.specs.Lines.{memoryText}
 use Rattle.display.proofs.lines.append_memory.Statement.{statement}
 use Rattle.display.proofs.lines.append_memory.Tie as tie

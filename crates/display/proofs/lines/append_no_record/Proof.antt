@@ -40,7 +40,7 @@ same-length c = search needs
 
 returns : tie.Need-returns
 unfolding noRecordText
-returns c = let a = c .before .before .before .before .before .before .before .before .before .before .before .before .before .before .before .before .before .before .before .before .before .before .before .before .before .before .before .before .args in (c .before .before .append3 .ensures .0, (more (more (more (more (more (one (refusedText (a .refusal) (a .offset)) (c .before .before .before .before .before .before .before .before .before .before .before .before .before .before .before .before .before .before .before .before .before .before .before .before .before .append-refused .ensures .1)) (bytesOf " (asked: frame ") (c .before .before .before .before .before .before .before .before .before .before .before .before .before .before .before .before .before .before .before .before .append .ensures .1)) (decimal (a .number)) (appends-number (a .number) (c .before .before .before .before .before .before .before .before .before .before .before .before .before .before .before .before .append-number .ensures .1))) (bytesOf ", record ") (c .before .before .before .before .before .before .before .before .before .before .before .append2 .ensures .1)) (decimal (a .index)) (appends-number (a .index) (c .before .before .before .before .before .before .before .append-number2 .ensures .1))) (bytesOf ")\n") (c .before .before .append3 .ensures .1)) .text)
+returns c = let a = c .before .before .before .before .before .before .before .before .before .before .before .before .before .before .before .before .before .before .before .before .before .before .before .before .before .before .before .before .args in (c .before .before .append3 .ensures .0, (more (more (more (more (more (one (refusedText (a .refusal) (a .offset)) (c .before .before .before .before .before .before .before .before .before .before .before .before .before .before .before .before .before .before .before .before .before .before .before .before .before .append-refused .ensures .1)) (bytesOf "\n  asked: frame ") (c .before .before .before .before .before .before .before .before .before .before .before .before .before .before .before .before .before .before .before .before .append .ensures .1)) (decimal (a .number)) (appends-number (a .number) (c .before .before .before .before .before .before .before .before .before .before .before .before .before .before .before .before .append-number .ensures .1))) (bytesOf ", record ") (c .before .before .before .before .before .before .before .before .before .before .before .append2 .ensures .1)) (decimal (a .index)) (appends-number (a .index) (c .before .before .before .before .before .before .before .append-number2 .ensures .1))) (bytesOf "\n") (c .before .before .append3 .ensures .1)) .text)
 
 pub append-no-record-spec : {M : Type 1} → statement M
 append-no-record-spec =

@@ -5,7 +5,7 @@ use Rattle.report.proofs.Promises.{one, more}
 use Rattle.report.specs.Text.{bytesOf}
 use Rattle.listing.specs.Numbers.{decimal}
 use Rattle.listing.proofs.Promises.{appends-number}
-use Rattle.display.specs.Numbers.{countText}
+use Rattle.phrases.specs.Numbers.{countText}
 use Rattle.display.specs.Lines.{someFrameText}
 use Rattle.display.proofs.lines.append_some_frame.Statement.{statement}
 use Rattle.display.proofs.lines.append_some_frame.Tie as tie

@@ -4,7 +4,7 @@ use Rattle.report.proofs.Promises.{one, more}
 use Rattle.report.specs.Text.{bytesOf}
 use Rattle.listing.specs.Numbers.{decimal}
 use Rattle.listing.proofs.Promises.{appends-number}
-use Rattle.display.specs.Numbers.{valueText}
+use Rattle.phrases.specs.Numbers.{valueText}
 use Rattle.display.specs.Lines.{variableText}
 use Rattle.display.proofs.lines.append_variable.Statement.{statement}
 use Rattle.display.proofs.lines.append_variable.Tie as tie

@@ -2,7 +2,7 @@
 use borrow.Author.Needs.{needs}
 use Rattle.report.proofs.Promises.{one, more}
 use Rattle.report.specs.Text.{bytesOf}
-use Rattle.display.specs.Numbers.{hexText}
+use Rattle.phrases.specs.Numbers.{hexText}
 use Rattle.tracefile.specs.Head.{pointText}
 use Rattle.tracefile.proofs.head.append_point.Statement.{statement}
 use Rattle.tracefile.proofs.head.append_point.Tie as tie

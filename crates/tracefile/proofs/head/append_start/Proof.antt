@@ -3,7 +3,7 @@ use borrow.Author.Needs.{needs}
 use mathlib.Core.List.{[], _∷_}
 use Rattle.report.proofs.Promises.{one, more}
 use Rattle.report.specs.Text.{bytesOf}
-use Rattle.display.specs.Numbers.{hexText}
+use Rattle.phrases.specs.Numbers.{hexText}
 use Rattle.tracefile.specs.Head.{startText}
 use Rattle.tracefile.proofs.head.append_start.Statement.{statement}
 use Rattle.tracefile.proofs.head.append_start.Tie as tie

@@ -4,7 +4,7 @@ use Prim.Native.Nat.{_+_}
 use Rattle.report.proofs.Promises.{appends-same, one, more}
 use Rattle.report.specs.Text.{bytesOf}
 use Rattle.report.specs.Hex.{hexOf}
-use Rattle.display.specs.Numbers.{hexText}
+use Rattle.phrases.specs.Numbers.{hexText}
 use Rattle.tracefile.specs.Head.{nameText, variableText}
 use Rattle.tracefile.proofs.Filing.{next-hex}
 use Rattle.tracefile.proofs.head.append_variable.Statement.{statement}

@@ -1,0 +1,66 @@
+-- The answers by what is tested of them, for the proofs of the functions of `verdict` and `outcome`. Assumes nothing.
+use Prim.Native.Nat.{ℕ, _≤_, _<_}
+use native.Mathlib.Omega.{arith}
+use mathlib.Core.Bool.{true, false}
+use mathlib.Core.List.{List, [], _++_}
+use mathlib.Core.Path.{_≡_, sym, _∙_}
+use lib.Dec.{leb}
+use lib.ListN.{length, getD}
+use borrow.Author.Tests.{eq-eqb, ne-eqb, le-leb, lt-leb}
+use Rattle.encoding.proofs.Promises.{cases}
+use Rattle.report.specs.Text.{bytesOf, Text}
+use Rattle.listing.specs.Numbers.{decimal}
+use Rattle.listing.specs.Text.{isInstruction, plainAt}
+use Rattle.machine.specs.Machine.{Answer}
+use Rattle.answers.specs.Verdict.{opcodeText, thereText, instructionOf, heightText}
+use Rattle.answers.specs.Outcome.{completedBy, isNarrow, completedText}
+
+-- ---- what stands at an offset
+module _ (e : List ℕ) (k : ℕ) where
+  pub there-none : length e ≤ k → [] ≡ thereText e k
+  unfolding thereText
+  there-none h = rw (le-leb (length e) k h)
+
+  pub there-opcode : k < length e → isInstruction e k ≡ false → opcodeText (getD e k 0) ≡ thereText e k
+  unfolding thereText
+  there-opcode h q = rw (lt-leb (length e) k h, q)
+
+  pub there-instruction : k < length e → isInstruction e k ≡ true → bytesOf " (" ++ plainAt e k ++ bytesOf ")" ≡ thereText e k
+  unfolding thereText
+  there-instruction h q = rw (lt-leb (length e) k h, q)
+
+  pub of-none : (r : ℕ) → r ≡ 1 → [] ≡ instructionOf e r k
+  unfolding instructionOf
+  of-none r h = rw (eq-eqb r 1 h)
+
+  pub of-some : (r : ℕ) → (r ≡ 1 → ⊥) → thereText e k ≡ instructionOf e r k
+  unfolding instructionOf
+  of-some r h = rw (ne-eqb r 1 h)
+
+-- ---- a height
+pub height-none : (h : ℕ) → h ≡ 255 → bytesOf "# not reached\n" ≡ heightText h
+unfolding heightText
+height-none h q = rw (eq-eqb h 255 q)
+
+pub height-some : (h : ℕ) → (h ≡ 255 → ⊥) → bytesOf "# height " ++ decimal h ++ bytesOf "\n" ≡ heightText h
+unfolding heightText
+height-some h q = rw (ne-eqb h 255 q)
+
+-- ---- one line or two
+module _ (a : Answer) (n : ℕ) where
+  -- as `is_narrow` finds it: r bytes of the line were written, into a buffer that has room for more than 101
+  pub narrow-by : (b : List ℕ) (r : ℕ) → Text b r (completedBy (bytesOf ", beneath ") a n) → 101 < length b → leb r 101 ≡ isNarrow a n
+  unfolding isNarrow
+  narrow-by b r t room =
+      let l = completedBy (bytesOf ", beneath ") a n in
+      cases 101 (length l)
+      (λ g. lt-leb r 101 (cases r (length b) (λ h. omega (arith, g, t .all h)) (λ h. omega (arith, h, room))) ∙ sym (lt-leb (length l) 101 g))
+      (λ h. le-leb r 101 (omega (arith, t .most, h)) ∙ sym (le-leb (length l) 101 h))
+
+  pub completed-one : isNarrow a n ≡ true → completedBy (bytesOf ", beneath ") a n ≡ completedText a n
+  unfolding completedText
+  completed-one q = rw q
+
+  pub completed-two : isNarrow a n ≡ false → completedBy (bytesOf ",\n  beneath ") a n ≡ completedText a n
+  unfolding completedText
+  completed-two q = rw q

@@ -1,0 +1,43 @@
+-- `answers::outcome::append_refused` meets its contract. Assumes nothing.
+use borrow.Author.Needs.{needs}
+use Rattle.report.proofs.Promises.{one, more}
+use Rattle.report.specs.Text.{bytesOf}
+use Rattle.report.specs.Refusals.{refusalOf}
+use Rattle.phrases.specs.Refused.{refusedAt}
+use Rattle.answers.specs.Outcome.{stepsText, refusedText}
+use Rattle.answers.proofs.outcome.append_refused.Statement.{statement}
+use Rattle.answers.proofs.outcome.append_refused.Tie as tie
+
+append-refused-at-requires : tie.Need-append-refused-at-requires
+append-refused-at-requires c κs = search needs
+
+append-steps-requires : tie.Need-append-steps-requires
+append-steps-requires c κs = search needs
+
+append-refusal-requires : tie.Need-append-refusal-requires
+append-refusal-requires c κs = search needs
+
+slice-aggregate-append : tie.Need-slice-aggregate-append
+slice-aggregate-append c = search needs
+
+append-requires : tie.Need-append-requires
+append-requires c κs = search needs
+
+same-length : tie.Need-same-length
+same-length c = search needs
+
+returns : tie.Need-returns
+unfolding refusedText
+returns c = let a = c .before .before .before .before .before .before .before .before .before .before .before .before .before .before .before .before .before .before .args in (c .before .before .append .ensures .0, (more (more (more (one (refusedAt (a .refusal) (a .offset)) (c .before .before .before .before .before .before .before .before .before .before .before .before .before .before .before .append-refused-at .ensures .1)) (stepsText (a .steps)) (c .before .before .before .before .before .before .before .before .before .before .before .append-steps .ensures .1)) (bytesOf (refusalOf (a .refusal))) (c .before .before .before .before .before .before .before .append-refusal .ensures .1)) (bytesOf "\n") (c .before .before .append .ensures .1)) .text)
+
+pub append-refused-spec : {M : Type 1} → statement M
+append-refused-spec =
+    tie.close
+    (tie.spec
+    append-refused-at-requires
+    append-steps-requires
+    append-refusal-requires
+    slice-aggregate-append
+    append-requires
+    same-length
+    returns)

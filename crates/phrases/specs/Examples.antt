@@ -1,0 +1,30 @@
+-- The phrases at small numbers. Assumes nothing.
+use mathlib.Core.Path.{_≡_, refl}
+use Rattle.report.specs.Text.{bytesOf}
+use Rattle.listing.specs.Numbers.{decimalBy, decimal}
+use Rattle.phrases.specs.Numbers.{countText, hexText, significant, valueText}
+use Rattle.phrases.specs.Refused.{refusedAt}
+
+one : countText 1 (bytesOf "byte") ≡ bytesOf "1 byte"
+unfolding decimalBy decimal countText
+one = refl
+
+none : countText 0 (bytesOf "byte") ≡ bytesOf "0 bytes"
+unfolding decimalBy decimal countText
+none = refl
+
+an-address : hexText 4096 ≡ bytesOf "0000000000001000"
+unfolding hexText
+an-address = refl
+
+a-value : valueText 42 ≡ bytesOf "42 (0x2a)"
+unfolding decimalBy decimal hexText significant valueText
+a-value = refl
+
+zero-value : valueText 0 ≡ bytesOf "0 (0x0)"
+unfolding decimalBy decimal hexText significant valueText
+zero-value = refl
+
+a-refusal : refusedAt 19 12 ≡ bytesOf "refused 19 at offset 12"
+unfolding decimalBy decimal refusedAt
+a-refusal = refl
