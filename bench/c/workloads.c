@@ -140,14 +140,20 @@ static const char short_condition[] = "26000622100222e81608021a2220021a220402191
 void make_run(struct expression *e, int which)
 {
     static const char *const names[RUN_COUNT] = {
-        "arithmetic: dup, add, const8, mul",   "division: div and rem, signed and unsigned",
-        "jumps: if_goto taken or not, goto",   "chain of ref64",
-        "trace_quick 8",                       "tracenz over strings of 4 to 40 bytes",
-        "a condition of GDB's",                "a collection of GDB's"};
+        "arithmetic: dup, add, const8, mul",
+        "division: div and rem, signed and unsigned",
+        "division of numbers of 63 bits",
+        "jumps: if_goto taken or not, goto",
+        "chain of ref64",
+        "trace_quick 8",
+        "tracenz over strings of 4 to 40 bytes",
+        "a condition of GDB's",
+        "a collection of GDB's"};
     start(e, names[which]);
     switch (which) {
     case ARITHMETIC: repeat(e, "2203", "2802220704"); break;
     case DIVISION: repeat(e, "237abc", "220105220106237fff07237fff08"); break;
+    case LONG_DIVISION: repeat(e, "257abcdef012345678", "220105220106257fffffffffffffff07257fffffffffffffff08"); break;
     case JUMPS: make_jumps(e); break;
     case REF64: repeat(e, "232000", "1a"); break;
     case TRACE_QUICK: repeat(e, "232000", "0d08"); break;

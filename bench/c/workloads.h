@@ -20,7 +20,7 @@ struct scene {
 
 void make_scene(struct scene *s);
 
-enum { ARITHMETIC, DIVISION, JUMPS, REF64, TRACE_QUICK, TRACENZ, CONDITION, COLLECTION, RUN_COUNT };
+enum { ARITHMETIC, DIVISION, LONG_DIVISION, JUMPS, REF64, TRACE_QUICK, TRACENZ, CONDITION, COLLECTION, RUN_COUNT };
 void make_run(struct expression *e, int which);
 
 void make_end(struct expression *e);                        // `27`

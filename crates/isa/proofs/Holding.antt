@@ -14,6 +14,12 @@ unfolding held
 length-held a zero = refl
 length-held a (suc h) = ap suc (length-held a h)
 
+-- a stack with a cell is that cell and the rest
+pub held-top : (a : List ℕ) (h : ℕ) → 1 ≤ h → held a h ≡ getD (held a h) 0 0 ∷ drop 1 (held a h)
+unfolding held
+held-top a zero l = absurd (not-suc-le-zero l)
+held-top a (suc h) l = refl
+
 -- a store at or above the height does not show
 held-set : (a : List ℕ) (h i v : ℕ) → h ≤ i → held (set a i v) h ≡ held a h
 unfolding held

@@ -147,6 +147,9 @@ weigh-one = walking.weigh-one
 pub length-held : (a : List ℕ) (h : ℕ) → length (held a h) ≡ h
 length-held = holding.length-held
 
+pub held-top : (a : List ℕ) (h : ℕ) → 1 ≤ h → held a h ≡ getD (held a h) 0 0 ∷ drop 1 (held a h)
+held-top = holding.held-top
+
 pub held-drop : (a : List ℕ) (h n : ℕ) → n ≤ h → held a (h - n) ≡ drop n (held a h)
 held-drop = holding.held-drop
 

@@ -7,13 +7,11 @@ use Prim.Native.Nat.{ℕ, _≤_, _<_}
 use native.Mathlib.Omega.{arith}
 use native.Mathlib.Decide.{ℕ-discrete}
 use lib.ListN.{length, getD, take, drop}
-use lib.Seq.{drop-cons}
 use lib.Dec.{leb, ltb}
 use borrow.Author.Tests.{eq-eqb, ne-eqb, le-leb, lt-leb, lt-ltb, le-ltb}
 use Rattle.encoding.specs.LittleEndian.{littleEndian}
 use Rattle.encoding.proofs.Promises.{no-true}
 use Rattle.isa.specs.Held.{held}
-use Rattle.isa.proofs.Promises.{length-held}
 use Rattle.memory.specs.Spans.{spansRefusal}
 use Rattle.memory.specs.Fetch.{readable, fetched, restOf}
 use Rattle.memory.proofs.Promises.{rest-test, rest-fetched}
@@ -92,10 +90,6 @@ module _ (m : Fed) {k n : ℕ} (e : k ≡ n) where
   pub reg-refused : length (m .registers) ≤ k → regDone m n ≡ faults 18
   unfolding regDone
   reg-refused h = rw (← e, le-ltb k (length (m .registers)) h)
-
--- ---- the stack as the cells left and the rest
-pub held-top : (a : List ℕ) (h : ℕ) → 1 ≤ h → held a h ≡ getD (held a h) 0 0 ∷ drop 1 (held a h)
-held-top a h l = drop-cons (held a h) 0 0 (rw (length-held a h) l)
 
 -- ---- the contract, where it is known what the instruction does
 module _ {i p : ℕ} {s : List ℕ} {d : Done} {t n : ℕ} {r : Next} {a : List ℕ} (q : r .put ≡ p) (l : length a ≡ 64) where

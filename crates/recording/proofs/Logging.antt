@@ -3,8 +3,8 @@ use mathlib.Core.Bool.{true}
 use mathlib.Core.List.{List, [], _∷_, _++_, append-nil}
 use mathlib.Core.Logic.{_≢_, _⊎_, inl, inr}
 use mathlib.Core.Path.{_≡_, refl, ap, _∙_}
-use Prim.Native.Nat.{ℕ, zero, suc, _+_, _-_, _≤_, _<_}
-use native.Mathlib.Nat.{add-zero, not-suc-le-zero}
+use Prim.Native.Nat.{ℕ, _+_, _-_, _≤_, _<_}
+use native.Mathlib.Nat.{add-zero}
 use native.Mathlib.Omega.{arith}
 use native.Mathlib.Decide.{ℕ-discrete}
 use lib.ListN.{length, drop, getD}
@@ -81,9 +81,3 @@ module _ {i p h t u g n : ℕ} {s b : List ℕ} (cells : List ℕ) (m : Made) {w
 pub logged-number : {i p : ℕ} {s b : List ℕ} (d : Done) {t n : ℕ} {r : Next} {a b′ : List ℕ} → Logged i p s b d t n r a b′ → (r .stop ≡ 0) ⊎ (1 < r .stop)
 logged-number (leaves cells rs) l = inl (l .stop)
 logged-number (faults n) l = inr (omega (arith, l .stop, l .refusal))
-
--- a stack with a cell is that cell and the rest
-pub held-top : (a : List ℕ) (h : ℕ) → 1 ≤ h → held a h ≡ getD (held a h) 0 0 ∷ drop 1 (held a h)
-unfolding held
-held-top a zero l = absurd (not-suc-le-zero l)
-held-top a (suc h) l = refl

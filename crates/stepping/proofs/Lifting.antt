@@ -3,7 +3,7 @@ use mathlib.Core.Bool.{Bool, true, false, cond, not, _&&_}
 use mathlib.Core.List.{List, [], _∷_, _++_}
 use mathlib.Core.Logic.{_≢_, ⊎-elim}
 use mathlib.Core.Path.{_≡_, refl, ap, sym, _∙_}
-use Prim.Native.Nat.{ℕ, _+_, _≤_, _<_}
+use Prim.Native.Nat.{ℕ, _+_, _-_, _≤_, _<_}
 use native.Mathlib.Nat.{add-zero}
 use native.Mathlib.Omega.{arith}
 use lib.ListN.{length, getD, drop, set}
@@ -163,82 +163,91 @@ module _ (m : Fed) (k : ℕ) (s v : List ℕ) (free op : ℕ) (c : Class) (q : c
   unfolding effect endDone
   did-end z g {a = a} e h l w = rw (done-at ∙ g) (ended-by (leb trailerSize free) z (e .stop) (e .at) (e .put) (ap (held a) (e .height) ∙ h) l w)
 
+-- ---- the key of an arm is its opcode and 0xc0
+pub opcode-is : (k : ℕ) {op key : ℕ} → key ≡ op + 0xc0 → key ≡ k + 0xc0 → op ≡ k
+opcode-is k e q = omega (arith, e, q)
+
+away : {op key k : ℕ} → key ≡ op + 0xc0 → key ≢ k + 0xc0 → op ≢ k
+away e n q = n (e ∙ ap (λ (x : ℕ). x + 0xc0) q)
+
 -- ---- no supported opcode is left for the last arm
 abbrev pub NoneOf44 : ℕ → Type 0
-NoneOf44 op = ((((((((((((((((((((((((((((((((((((((((((((Unit {0} × (op ≢ 0x02)) × (op ≢ 0x03)) × (op ≢ 0x04)) × (op ≢ 0x05)) × (op ≢ 0x06)) × (op ≢ 0x07)) × (op ≢ 0x08)) × (op ≢ 0x09)) × (op ≢ 0x0a)) × (op ≢ 0x0b)) × (op ≢ 0x0f)) × (op ≢ 0x10)) × (op ≢ 0x11)) × (op ≢ 0x13)) × (op ≢ 0x14)) × (op ≢ 0x15)) × (op ≢ 0x0c)) × (op ≢ 0x2f)) × (op ≢ 0x0e)) × (op ≢ 0x12)) × (op ≢ 0x17)) × (op ≢ 0x18)) × (op ≢ 0x19)) × (op ≢ 0x1a)) × (op ≢ 0x0d)) × (op ≢ 0x30)) × (op ≢ 0x16)) × (op ≢ 0x2a)) × (op ≢ 0x2d)) × (op ≢ 0x20)) × (op ≢ 0x21)) × (op ≢ 0x22)) × (op ≢ 0x23)) × (op ≢ 0x24)) × (op ≢ 0x25)) × (op ≢ 0x26)) × (op ≢ 0x2c)) × (op ≢ 0x2e)) × (op ≢ 0x27)) × (op ≢ 0x28)) × (op ≢ 0x29)) × (op ≢ 0x2b)) × (op ≢ 0x32)) × (op ≢ 0x33))
+NoneOf44 key = ((((((((((((((((((((((((((((((((((((((((((((Unit {0} × (key ≢ 0xc2)) × (key ≢ 0xc3)) × (key ≢ 0xc4)) × (key ≢ 0xc5)) × (key ≢ 0xc6)) × (key ≢ 0xc7)) × (key ≢ 0xc8)) × (key ≢ 0xc9)) × (key ≢ 0xca)) × (key ≢ 0xcb)) × (key ≢ 0xcf)) × (key ≢ 0xd0)) × (key ≢ 0xd1)) × (key ≢ 0xd3)) × (key ≢ 0xd4)) × (key ≢ 0xd5)) × (key ≢ 0xcc)) × (key ≢ 0xef)) × (key ≢ 0xce)) × (key ≢ 0xd2)) × (key ≢ 0xd7)) × (key ≢ 0xd8)) × (key ≢ 0xd9)) × (key ≢ 0xda)) × (key ≢ 0xcd)) × (key ≢ 0xf0)) × (key ≢ 0xd6)) × (key ≢ 0xea)) × (key ≢ 0xed)) × (key ≢ 0xe0)) × (key ≢ 0xe1)) × (key ≢ 0xe2)) × (key ≢ 0xe3)) × (key ≢ 0xe4)) × (key ≢ 0xe5)) × (key ≢ 0xe6)) × (key ≢ 0xec)) × (key ≢ 0xee)) × (key ≢ 0xe7)) × (key ≢ 0xe8)) × (key ≢ 0xe9)) × (key ≢ 0xeb)) × (key ≢ 0xf2)) × (key ≢ 0xf3))
 
 least : (b : Bool) → kind (cond b unsupported unknown) ≤ kind-unsupported
 least true = omega arith
 least false = omega arith
 
-unsupported-else : (op : ℕ) → NoneOf44 op → kind (classOf op) ≤ kind-unsupported
+unsupported-else : (op : ℕ) {key : ℕ} → key ≡ op + 0xc0 → NoneOf44 key → kind (classOf op) ≤ kind-unsupported
 unfolding classOf opcodes
-unsupported-else op h =
+unsupported-else op e h =
     rw (
-      ne-eqb op 0x02 (h .0 .0 .0 .0 .0 .0 .0 .0 .0 .0 .0 .0 .0 .0 .0 .0 .0 .0 .0 .0 .0 .0 .0 .0 .0 .0 .0 .0 .0 .0 .0 .0 .0 .0 .0 .0 .0 .0 .0 .0 .0 .0 .0 .1),
-      ne-eqb op 0x03 (h .0 .0 .0 .0 .0 .0 .0 .0 .0 .0 .0 .0 .0 .0 .0 .0 .0 .0 .0 .0 .0 .0 .0 .0 .0 .0 .0 .0 .0 .0 .0 .0 .0 .0 .0 .0 .0 .0 .0 .0 .0 .0 .1),
-      ne-eqb op 0x04 (h .0 .0 .0 .0 .0 .0 .0 .0 .0 .0 .0 .0 .0 .0 .0 .0 .0 .0 .0 .0 .0 .0 .0 .0 .0 .0 .0 .0 .0 .0 .0 .0 .0 .0 .0 .0 .0 .0 .0 .0 .0 .1),
-      ne-eqb op 0x05 (h .0 .0 .0 .0 .0 .0 .0 .0 .0 .0 .0 .0 .0 .0 .0 .0 .0 .0 .0 .0 .0 .0 .0 .0 .0 .0 .0 .0 .0 .0 .0 .0 .0 .0 .0 .0 .0 .0 .0 .0 .1),
-      ne-eqb op 0x06 (h .0 .0 .0 .0 .0 .0 .0 .0 .0 .0 .0 .0 .0 .0 .0 .0 .0 .0 .0 .0 .0 .0 .0 .0 .0 .0 .0 .0 .0 .0 .0 .0 .0 .0 .0 .0 .0 .0 .0 .1),
-      ne-eqb op 0x07 (h .0 .0 .0 .0 .0 .0 .0 .0 .0 .0 .0 .0 .0 .0 .0 .0 .0 .0 .0 .0 .0 .0 .0 .0 .0 .0 .0 .0 .0 .0 .0 .0 .0 .0 .0 .0 .0 .0 .1),
-      ne-eqb op 0x08 (h .0 .0 .0 .0 .0 .0 .0 .0 .0 .0 .0 .0 .0 .0 .0 .0 .0 .0 .0 .0 .0 .0 .0 .0 .0 .0 .0 .0 .0 .0 .0 .0 .0 .0 .0 .0 .0 .1),
-      ne-eqb op 0x09 (h .0 .0 .0 .0 .0 .0 .0 .0 .0 .0 .0 .0 .0 .0 .0 .0 .0 .0 .0 .0 .0 .0 .0 .0 .0 .0 .0 .0 .0 .0 .0 .0 .0 .0 .0 .0 .1),
-      ne-eqb op 0x0a (h .0 .0 .0 .0 .0 .0 .0 .0 .0 .0 .0 .0 .0 .0 .0 .0 .0 .0 .0 .0 .0 .0 .0 .0 .0 .0 .0 .0 .0 .0 .0 .0 .0 .0 .0 .1),
-      ne-eqb op 0x0b (h .0 .0 .0 .0 .0 .0 .0 .0 .0 .0 .0 .0 .0 .0 .0 .0 .0 .0 .0 .0 .0 .0 .0 .0 .0 .0 .0 .0 .0 .0 .0 .0 .0 .0 .1),
-      ne-eqb op 0x0f (h .0 .0 .0 .0 .0 .0 .0 .0 .0 .0 .0 .0 .0 .0 .0 .0 .0 .0 .0 .0 .0 .0 .0 .0 .0 .0 .0 .0 .0 .0 .0 .0 .0 .1),
-      ne-eqb op 0x10 (h .0 .0 .0 .0 .0 .0 .0 .0 .0 .0 .0 .0 .0 .0 .0 .0 .0 .0 .0 .0 .0 .0 .0 .0 .0 .0 .0 .0 .0 .0 .0 .0 .1),
-      ne-eqb op 0x11 (h .0 .0 .0 .0 .0 .0 .0 .0 .0 .0 .0 .0 .0 .0 .0 .0 .0 .0 .0 .0 .0 .0 .0 .0 .0 .0 .0 .0 .0 .0 .0 .1),
-      ne-eqb op 0x13 (h .0 .0 .0 .0 .0 .0 .0 .0 .0 .0 .0 .0 .0 .0 .0 .0 .0 .0 .0 .0 .0 .0 .0 .0 .0 .0 .0 .0 .0 .0 .1),
-      ne-eqb op 0x14 (h .0 .0 .0 .0 .0 .0 .0 .0 .0 .0 .0 .0 .0 .0 .0 .0 .0 .0 .0 .0 .0 .0 .0 .0 .0 .0 .0 .0 .0 .1),
-      ne-eqb op 0x15 (h .0 .0 .0 .0 .0 .0 .0 .0 .0 .0 .0 .0 .0 .0 .0 .0 .0 .0 .0 .0 .0 .0 .0 .0 .0 .0 .0 .0 .1),
-      ne-eqb op 0x0c (h .0 .0 .0 .0 .0 .0 .0 .0 .0 .0 .0 .0 .0 .0 .0 .0 .0 .0 .0 .0 .0 .0 .0 .0 .0 .0 .0 .1),
-      ne-eqb op 0x2f (h .0 .0 .0 .0 .0 .0 .0 .0 .0 .0 .0 .0 .0 .0 .0 .0 .0 .0 .0 .0 .0 .0 .0 .0 .0 .0 .1),
-      ne-eqb op 0x0e (h .0 .0 .0 .0 .0 .0 .0 .0 .0 .0 .0 .0 .0 .0 .0 .0 .0 .0 .0 .0 .0 .0 .0 .0 .0 .1),
-      ne-eqb op 0x12 (h .0 .0 .0 .0 .0 .0 .0 .0 .0 .0 .0 .0 .0 .0 .0 .0 .0 .0 .0 .0 .0 .0 .0 .0 .1),
-      ne-eqb op 0x17 (h .0 .0 .0 .0 .0 .0 .0 .0 .0 .0 .0 .0 .0 .0 .0 .0 .0 .0 .0 .0 .0 .0 .0 .1),
-      ne-eqb op 0x18 (h .0 .0 .0 .0 .0 .0 .0 .0 .0 .0 .0 .0 .0 .0 .0 .0 .0 .0 .0 .0 .0 .0 .1),
-      ne-eqb op 0x19 (h .0 .0 .0 .0 .0 .0 .0 .0 .0 .0 .0 .0 .0 .0 .0 .0 .0 .0 .0 .0 .0 .1),
-      ne-eqb op 0x1a (h .0 .0 .0 .0 .0 .0 .0 .0 .0 .0 .0 .0 .0 .0 .0 .0 .0 .0 .0 .0 .1),
-      ne-eqb op 0x0d (h .0 .0 .0 .0 .0 .0 .0 .0 .0 .0 .0 .0 .0 .0 .0 .0 .0 .0 .0 .1),
-      ne-eqb op 0x30 (h .0 .0 .0 .0 .0 .0 .0 .0 .0 .0 .0 .0 .0 .0 .0 .0 .0 .0 .1),
-      ne-eqb op 0x16 (h .0 .0 .0 .0 .0 .0 .0 .0 .0 .0 .0 .0 .0 .0 .0 .0 .0 .1),
-      ne-eqb op 0x2a (h .0 .0 .0 .0 .0 .0 .0 .0 .0 .0 .0 .0 .0 .0 .0 .0 .1),
-      ne-eqb op 0x2d (h .0 .0 .0 .0 .0 .0 .0 .0 .0 .0 .0 .0 .0 .0 .0 .1),
-      ne-eqb op 0x20 (h .0 .0 .0 .0 .0 .0 .0 .0 .0 .0 .0 .0 .0 .0 .1),
-      ne-eqb op 0x21 (h .0 .0 .0 .0 .0 .0 .0 .0 .0 .0 .0 .0 .0 .1),
-      ne-eqb op 0x22 (h .0 .0 .0 .0 .0 .0 .0 .0 .0 .0 .0 .0 .1),
-      ne-eqb op 0x23 (h .0 .0 .0 .0 .0 .0 .0 .0 .0 .0 .0 .1),
-      ne-eqb op 0x24 (h .0 .0 .0 .0 .0 .0 .0 .0 .0 .0 .1),
-      ne-eqb op 0x25 (h .0 .0 .0 .0 .0 .0 .0 .0 .0 .1),
-      ne-eqb op 0x26 (h .0 .0 .0 .0 .0 .0 .0 .0 .1),
-      ne-eqb op 0x2c (h .0 .0 .0 .0 .0 .0 .0 .1),
-      ne-eqb op 0x2e (h .0 .0 .0 .0 .0 .0 .1),
-      ne-eqb op 0x27 (h .0 .0 .0 .0 .0 .1),
-      ne-eqb op 0x28 (h .0 .0 .0 .0 .1),
-      ne-eqb op 0x29 (h .0 .0 .0 .1),
-      ne-eqb op 0x2b (h .0 .0 .1),
-      ne-eqb op 0x32 (h .0 .1),
-      ne-eqb op 0x33 (h .1),
+      ne-eqb op 0x02 (away e (h .0 .0 .0 .0 .0 .0 .0 .0 .0 .0 .0 .0 .0 .0 .0 .0 .0 .0 .0 .0 .0 .0 .0 .0 .0 .0 .0 .0 .0 .0 .0 .0 .0 .0 .0 .0 .0 .0 .0 .0 .0 .0 .0 .1)),
+      ne-eqb op 0x03 (away e (h .0 .0 .0 .0 .0 .0 .0 .0 .0 .0 .0 .0 .0 .0 .0 .0 .0 .0 .0 .0 .0 .0 .0 .0 .0 .0 .0 .0 .0 .0 .0 .0 .0 .0 .0 .0 .0 .0 .0 .0 .0 .0 .1)),
+      ne-eqb op 0x04 (away e (h .0 .0 .0 .0 .0 .0 .0 .0 .0 .0 .0 .0 .0 .0 .0 .0 .0 .0 .0 .0 .0 .0 .0 .0 .0 .0 .0 .0 .0 .0 .0 .0 .0 .0 .0 .0 .0 .0 .0 .0 .0 .1)),
+      ne-eqb op 0x05 (away e (h .0 .0 .0 .0 .0 .0 .0 .0 .0 .0 .0 .0 .0 .0 .0 .0 .0 .0 .0 .0 .0 .0 .0 .0 .0 .0 .0 .0 .0 .0 .0 .0 .0 .0 .0 .0 .0 .0 .0 .0 .1)),
+      ne-eqb op 0x06 (away e (h .0 .0 .0 .0 .0 .0 .0 .0 .0 .0 .0 .0 .0 .0 .0 .0 .0 .0 .0 .0 .0 .0 .0 .0 .0 .0 .0 .0 .0 .0 .0 .0 .0 .0 .0 .0 .0 .0 .0 .1)),
+      ne-eqb op 0x07 (away e (h .0 .0 .0 .0 .0 .0 .0 .0 .0 .0 .0 .0 .0 .0 .0 .0 .0 .0 .0 .0 .0 .0 .0 .0 .0 .0 .0 .0 .0 .0 .0 .0 .0 .0 .0 .0 .0 .0 .1)),
+      ne-eqb op 0x08 (away e (h .0 .0 .0 .0 .0 .0 .0 .0 .0 .0 .0 .0 .0 .0 .0 .0 .0 .0 .0 .0 .0 .0 .0 .0 .0 .0 .0 .0 .0 .0 .0 .0 .0 .0 .0 .0 .0 .1)),
+      ne-eqb op 0x09 (away e (h .0 .0 .0 .0 .0 .0 .0 .0 .0 .0 .0 .0 .0 .0 .0 .0 .0 .0 .0 .0 .0 .0 .0 .0 .0 .0 .0 .0 .0 .0 .0 .0 .0 .0 .0 .0 .1)),
+      ne-eqb op 0x0a (away e (h .0 .0 .0 .0 .0 .0 .0 .0 .0 .0 .0 .0 .0 .0 .0 .0 .0 .0 .0 .0 .0 .0 .0 .0 .0 .0 .0 .0 .0 .0 .0 .0 .0 .0 .0 .1)),
+      ne-eqb op 0x0b (away e (h .0 .0 .0 .0 .0 .0 .0 .0 .0 .0 .0 .0 .0 .0 .0 .0 .0 .0 .0 .0 .0 .0 .0 .0 .0 .0 .0 .0 .0 .0 .0 .0 .0 .0 .1)),
+      ne-eqb op 0x0f (away e (h .0 .0 .0 .0 .0 .0 .0 .0 .0 .0 .0 .0 .0 .0 .0 .0 .0 .0 .0 .0 .0 .0 .0 .0 .0 .0 .0 .0 .0 .0 .0 .0 .0 .1)),
+      ne-eqb op 0x10 (away e (h .0 .0 .0 .0 .0 .0 .0 .0 .0 .0 .0 .0 .0 .0 .0 .0 .0 .0 .0 .0 .0 .0 .0 .0 .0 .0 .0 .0 .0 .0 .0 .0 .1)),
+      ne-eqb op 0x11 (away e (h .0 .0 .0 .0 .0 .0 .0 .0 .0 .0 .0 .0 .0 .0 .0 .0 .0 .0 .0 .0 .0 .0 .0 .0 .0 .0 .0 .0 .0 .0 .0 .1)),
+      ne-eqb op 0x13 (away e (h .0 .0 .0 .0 .0 .0 .0 .0 .0 .0 .0 .0 .0 .0 .0 .0 .0 .0 .0 .0 .0 .0 .0 .0 .0 .0 .0 .0 .0 .0 .1)),
+      ne-eqb op 0x14 (away e (h .0 .0 .0 .0 .0 .0 .0 .0 .0 .0 .0 .0 .0 .0 .0 .0 .0 .0 .0 .0 .0 .0 .0 .0 .0 .0 .0 .0 .0 .1)),
+      ne-eqb op 0x15 (away e (h .0 .0 .0 .0 .0 .0 .0 .0 .0 .0 .0 .0 .0 .0 .0 .0 .0 .0 .0 .0 .0 .0 .0 .0 .0 .0 .0 .0 .1)),
+      ne-eqb op 0x0c (away e (h .0 .0 .0 .0 .0 .0 .0 .0 .0 .0 .0 .0 .0 .0 .0 .0 .0 .0 .0 .0 .0 .0 .0 .0 .0 .0 .0 .1)),
+      ne-eqb op 0x2f (away e (h .0 .0 .0 .0 .0 .0 .0 .0 .0 .0 .0 .0 .0 .0 .0 .0 .0 .0 .0 .0 .0 .0 .0 .0 .0 .0 .1)),
+      ne-eqb op 0x0e (away e (h .0 .0 .0 .0 .0 .0 .0 .0 .0 .0 .0 .0 .0 .0 .0 .0 .0 .0 .0 .0 .0 .0 .0 .0 .0 .1)),
+      ne-eqb op 0x12 (away e (h .0 .0 .0 .0 .0 .0 .0 .0 .0 .0 .0 .0 .0 .0 .0 .0 .0 .0 .0 .0 .0 .0 .0 .0 .1)),
+      ne-eqb op 0x17 (away e (h .0 .0 .0 .0 .0 .0 .0 .0 .0 .0 .0 .0 .0 .0 .0 .0 .0 .0 .0 .0 .0 .0 .0 .1)),
+      ne-eqb op 0x18 (away e (h .0 .0 .0 .0 .0 .0 .0 .0 .0 .0 .0 .0 .0 .0 .0 .0 .0 .0 .0 .0 .0 .0 .1)),
+      ne-eqb op 0x19 (away e (h .0 .0 .0 .0 .0 .0 .0 .0 .0 .0 .0 .0 .0 .0 .0 .0 .0 .0 .0 .0 .0 .1)),
+      ne-eqb op 0x1a (away e (h .0 .0 .0 .0 .0 .0 .0 .0 .0 .0 .0 .0 .0 .0 .0 .0 .0 .0 .0 .0 .1)),
+      ne-eqb op 0x0d (away e (h .0 .0 .0 .0 .0 .0 .0 .0 .0 .0 .0 .0 .0 .0 .0 .0 .0 .0 .0 .1)),
+      ne-eqb op 0x30 (away e (h .0 .0 .0 .0 .0 .0 .0 .0 .0 .0 .0 .0 .0 .0 .0 .0 .0 .0 .1)),
+      ne-eqb op 0x16 (away e (h .0 .0 .0 .0 .0 .0 .0 .0 .0 .0 .0 .0 .0 .0 .0 .0 .0 .1)),
+      ne-eqb op 0x2a (away e (h .0 .0 .0 .0 .0 .0 .0 .0 .0 .0 .0 .0 .0 .0 .0 .0 .1)),
+      ne-eqb op 0x2d (away e (h .0 .0 .0 .0 .0 .0 .0 .0 .0 .0 .0 .0 .0 .0 .0 .1)),
+      ne-eqb op 0x20 (away e (h .0 .0 .0 .0 .0 .0 .0 .0 .0 .0 .0 .0 .0 .0 .1)),
+      ne-eqb op 0x21 (away e (h .0 .0 .0 .0 .0 .0 .0 .0 .0 .0 .0 .0 .0 .1)),
+      ne-eqb op 0x22 (away e (h .0 .0 .0 .0 .0 .0 .0 .0 .0 .0 .0 .0 .1)),
+      ne-eqb op 0x23 (away e (h .0 .0 .0 .0 .0 .0 .0 .0 .0 .0 .0 .1)),
+      ne-eqb op 0x24 (away e (h .0 .0 .0 .0 .0 .0 .0 .0 .0 .0 .1)),
+      ne-eqb op 0x25 (away e (h .0 .0 .0 .0 .0 .0 .0 .0 .0 .1)),
+      ne-eqb op 0x26 (away e (h .0 .0 .0 .0 .0 .0 .0 .0 .1)),
+      ne-eqb op 0x2c (away e (h .0 .0 .0 .0 .0 .0 .0 .1)),
+      ne-eqb op 0x2e (away e (h .0 .0 .0 .0 .0 .0 .1)),
+      ne-eqb op 0x27 (away e (h .0 .0 .0 .0 .0 .1)),
+      ne-eqb op 0x28 (away e (h .0 .0 .0 .0 .1)),
+      ne-eqb op 0x29 (away e (h .0 .0 .0 .1)),
+      ne-eqb op 0x2b (away e (h .0 .0 .1)),
+      ne-eqb op 0x32 (away e (h .0 .1)),
+      ne-eqb op 0x33 (away e (h .1)),
     )
     (least (member op (0x01 ∷ 0x1b ∷ 0x1c ∷ 0x1d ∷ 0x1e ∷ 0x1f ∷ 0x34 ∷ [])))
 
-pub none-left {ℓ} : {X : Type ℓ} (op : ℕ) → NoneOf44 op → kind-unsupported < kind (classOf op) → X
-none-left op h l = absurd (omega (arith, unsupported-else op h))
+pub none-left {ℓ} : {X : Type ℓ} (op : ℕ) {key : ℕ} → key ≡ op + 0xc0 → NoneOf44 key → kind-unsupported < kind (classOf op) → X
+none-left op e h l = absurd (omega (arith, unsupported-else op e h))
 
--- none of these numbers is a supported opcode
+-- none of these keys is that of a supported opcode
 abbrev pub noneSupported : List ℕ → Bool
 noneSupported [] = true
-noneSupported (k ∷ ks) = leb (kind (classOf k)) kind-unsupported && noneSupported ks
+noneSupported (k ∷ ks) = leb (kind (classOf (k - 0xc0))) kind-unsupported && noneSupported ks
 
-not-this {ℓ} : {X : Type ℓ} (op k : ℕ) → T (leb (kind (classOf k)) kind-unsupported) → op ≡ k → kind-unsupported < kind (classOf op) → X
-not-this op k t q l = absurd (let z : kind-unsupported < kind (classOf k) = rw q at l in omega (arith, leb→le (kind (classOf k)) kind-unsupported t))
+not-this {ℓ} : {X : Type ℓ} (op k : ℕ) {key : ℕ} → key ≡ op + 0xc0 → T (leb (kind (classOf (k - 0xc0))) kind-unsupported) → key ≡ k → kind-unsupported < kind (classOf op) → X
+not-this op k e t q l =
+    let is : op ≡ k - 0xc0 = omega (arith, e, q) in
+    absurd (let z : kind-unsupported < kind (classOf (k - 0xc0)) = rw is at l in omega (arith, leb→le (kind (classOf (k - 0xc0))) kind-unsupported t))
 
-pub not-these {ℓ} : {X : Type ℓ} (op k : ℕ) (ks : List ℕ) → T (noneSupported (k ∷ ks)) → OneOf (k ∷ ks) op → kind-unsupported < kind (classOf op) → X
-not-these op k [] t q l = not-this op k (and-left (leb (kind (classOf k)) kind-unsupported) true t) q l
-not-these op k (j ∷ ks) t q l =
+pub not-these {ℓ} : {X : Type ℓ} (op k : ℕ) (ks : List ℕ) {key : ℕ} → key ≡ op + 0xc0 → T (noneSupported (k ∷ ks)) → OneOf (k ∷ ks) key → kind-unsupported < kind (classOf op) → X
+not-these op k [] e t q l = not-this op k e (and-left (leb (kind (classOf (k - 0xc0))) kind-unsupported) true t) q l
+not-these op k (j ∷ ks) e t q l =
     ⊎-elim
-    (λ e. not-this op k (and-left (leb (kind (classOf k)) kind-unsupported) (noneSupported (j ∷ ks)) t) e l)
-    (λ r. not-these op j ks (and-right (leb (kind (classOf k)) kind-unsupported) (noneSupported (j ∷ ks)) t) r l)
+    (λ p. not-this op k e (and-left (leb (kind (classOf (k - 0xc0))) kind-unsupported) (noneSupported (j ∷ ks)) t) p l)
+    (λ r. not-these op j ks e (and-right (leb (kind (classOf (k - 0xc0))) kind-unsupported) (noneSupported (j ∷ ks)) t) r l)
     q
 
 -- a supported opcode is below 64

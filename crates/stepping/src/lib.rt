@@ -1,7 +1,7 @@
 // One step of the machine: the instruction at an offset, by one arm for each opcode. The arm names the opcode, so that its row is known when this is compiled.
 // No expression that is accepted has the opcodes of the last three arms.
 ghost use mathlib.Core.Path.{_≡_};
-ghost use Prim.Native.Nat.{_-_, _≤_, _<_};
+ghost use Prim.Native.Nat.{_+_, _-_, _≤_, _<_};
 ghost use lib.ListN.{length, getD};
 ghost use Rattle.isa.specs.Held.{held};
 ghost use Rattle.memory.specs.Spans.{spansRefusal};
@@ -31,13 +31,13 @@ fn do_end(buffer: &[u8], at: usize, height: usize, put: usize) -> Next
     }
 }
 
-// The opcode at `at`. The remainder is the opcode itself: it tells the compiler that `step` has an arm for every number there is, so that a
-// step needs no test whether the jump table has an entry.
-fn opcode_at(code: &[u8], at: usize) -> u8
+// The key of an instruction's arm: its opcode with the two top bits set, which no opcode of an accepted expression has. The sum tells the compiler
+// that there are 64 keys, and `step` has an arm for each: so a step needs no test whether the jump table has an entry.
+fn key_at(code: &[u8], at: usize) -> u8
     requires { ⌜ at < length (now code) ⌝ ∗ ⌜ getD (now code) at 0 < 64 ⌝ }
-    ensures { λ r. ⌜ r ≡ getD (now (code .entry)) at 0 ⌝ }
+    ensures { λ r. ⌜ r ≡ getD (now (code .entry)) at 0 + 0xc0 ⌝ }
 {
-    code[at] % 64
+    code[at] + 0xc0
 }
 
 pub fn step<'a>(
@@ -58,25 +58,25 @@ pub fn step<'a>(
     requires { ⌜ Place (now rows) (now code) (now cells) at height ⌝ ∗ ⌜ put ≤ length (now buffer) ⌝ ∗ ⌜ spansRefusal «image_first» (now image) «work_first» (now work) ≡ 0 ⌝ }
     ensures { λ r. ⌜ Did at (held (now (cells .entry)) height) (now (variables .entry)) (now (buffer .entry)) put (effect (fed (now (code .entry)) (now (registers .entry)) «image_first» (now (image .entry)) «work_first» (now (work .entry))) at (held (now (cells .entry)) height) (now (variables .entry)) (length (now (buffer .entry)) - put)) r (now (cells .exit)) (now (variables .exit)) (now (buffer .exit)) ⌝ }
 {
-    let opcode = opcode_at(code, at);
-    match opcode {
-        0x02 => operations::do_binary(rows, code, cells, 0x02, at, height, put),
-        0x03 => operations::do_binary(rows, code, cells, 0x03, at, height, put),
-        0x04 => operations::do_binary(rows, code, cells, 0x04, at, height, put),
-        0x05 => operations::do_binary(rows, code, cells, 0x05, at, height, put),
-        0x06 => operations::do_binary(rows, code, cells, 0x06, at, height, put),
-        0x07 => operations::do_binary(rows, code, cells, 0x07, at, height, put),
-        0x08 => operations::do_binary(rows, code, cells, 0x08, at, height, put),
-        0x09 => operations::do_binary(rows, code, cells, 0x09, at, height, put),
-        0x0a => operations::do_binary(rows, code, cells, 0x0a, at, height, put),
-        0x0b => operations::do_binary(rows, code, cells, 0x0b, at, height, put),
-        0x0f => operations::do_binary(rows, code, cells, 0x0f, at, height, put),
-        0x10 => operations::do_binary(rows, code, cells, 0x10, at, height, put),
-        0x11 => operations::do_binary(rows, code, cells, 0x11, at, height, put),
-        0x13 => operations::do_binary(rows, code, cells, 0x13, at, height, put),
-        0x14 => operations::do_binary(rows, code, cells, 0x14, at, height, put),
-        0x15 => operations::do_binary(rows, code, cells, 0x15, at, height, put),
-        0x0c => recording::do_trace(
+    let key = key_at(code, at);
+    match key {
+        0xc2 => operations::do_binary(rows, code, cells, 0x02, at, height, put),
+        0xc3 => operations::do_binary(rows, code, cells, 0x03, at, height, put),
+        0xc4 => operations::do_binary(rows, code, cells, 0x04, at, height, put),
+        0xc5 => operations::do_binary(rows, code, cells, 0x05, at, height, put),
+        0xc6 => operations::do_binary(rows, code, cells, 0x06, at, height, put),
+        0xc7 => operations::do_binary(rows, code, cells, 0x07, at, height, put),
+        0xc8 => operations::do_binary(rows, code, cells, 0x08, at, height, put),
+        0xc9 => operations::do_binary(rows, code, cells, 0x09, at, height, put),
+        0xca => operations::do_binary(rows, code, cells, 0x0a, at, height, put),
+        0xcb => operations::do_binary(rows, code, cells, 0x0b, at, height, put),
+        0xcf => operations::do_binary(rows, code, cells, 0x0f, at, height, put),
+        0xd0 => operations::do_binary(rows, code, cells, 0x10, at, height, put),
+        0xd1 => operations::do_binary(rows, code, cells, 0x11, at, height, put),
+        0xd3 => operations::do_binary(rows, code, cells, 0x13, at, height, put),
+        0xd4 => operations::do_binary(rows, code, cells, 0x14, at, height, put),
+        0xd5 => operations::do_binary(rows, code, cells, 0x15, at, height, put),
+        0xcc => recording::do_trace(
             rows,
             code,
             cells,
@@ -89,7 +89,7 @@ pub fn step<'a>(
             height,
             put,
         ),
-        0x2f => recording::do_tracenz(
+        0xef => recording::do_tracenz(
             rows,
             code,
             cells,
@@ -102,9 +102,9 @@ pub fn step<'a>(
             height,
             put,
         ),
-        0x0e => operations::do_unary(rows, code, cells, 0x0e, at, height, put),
-        0x12 => operations::do_unary(rows, code, cells, 0x12, at, height, put),
-        0x17 => operations::do_ref(
+        0xce => operations::do_unary(rows, code, cells, 0x0e, at, height, put),
+        0xd2 => operations::do_unary(rows, code, cells, 0x12, at, height, put),
+        0xd7 => operations::do_ref(
             rows,
             code,
             cells,
@@ -118,7 +118,7 @@ pub fn step<'a>(
             height,
             put,
         ),
-        0x18 => operations::do_ref(
+        0xd8 => operations::do_ref(
             rows,
             code,
             cells,
@@ -132,7 +132,7 @@ pub fn step<'a>(
             height,
             put,
         ),
-        0x19 => operations::do_ref(
+        0xd9 => operations::do_ref(
             rows,
             code,
             cells,
@@ -146,7 +146,7 @@ pub fn step<'a>(
             height,
             put,
         ),
-        0x1a => operations::do_ref(
+        0xda => operations::do_ref(
             rows,
             code,
             cells,
@@ -160,7 +160,7 @@ pub fn step<'a>(
             height,
             put,
         ),
-        0x0d => recording::do_trace_quick(
+        0xcd => recording::do_trace_quick(
             rows,
             code,
             cells,
@@ -175,7 +175,7 @@ pub fn step<'a>(
             height,
             put,
         ),
-        0x30 => recording::do_trace_quick(
+        0xf0 => recording::do_trace_quick(
             rows,
             code,
             cells,
@@ -190,31 +190,31 @@ pub fn step<'a>(
             height,
             put,
         ),
-        0x16 => operations::do_ext(rows, code, cells, at, height, put),
-        0x2a => operations::do_zero_ext(rows, code, cells, at, height, put),
-        0x2d => operations::do_setv(rows, code, cells, variables, at, height, put),
-        0x20 => operations::do_if_goto(rows, code, cells, at, height, put),
-        0x21 => operations::do_goto(rows, code, cells, at, height, put),
-        0x22 => operations::do_constant(rows, code, cells, 0x22, 1, at, height, put),
-        0x23 => operations::do_constant(rows, code, cells, 0x23, 2, at, height, put),
-        0x24 => operations::do_constant(rows, code, cells, 0x24, 4, at, height, put),
-        0x25 => operations::do_constant(rows, code, cells, 0x25, 8, at, height, put),
-        0x26 => operations::do_reg(rows, code, cells, registers, at, height, put),
-        0x2c => operations::do_getv(rows, code, cells, variables, at, height, put),
-        0x2e => recording::do_tracev(rows, code, cells, variables, buffer, at, height, put),
-        0x27 => do_end(buffer, at, height, put),
-        0x28 => operations::do_dup(rows, code, cells, at, height, put),
-        0x29 => operations::do_pop(rows, code, cells, at, height, put),
-        0x2b => operations::do_swap(rows, code, cells, at, height, put),
-        0x32 => operations::do_pick(rows, code, cells, at, height, put),
-        0x33 => operations::do_rot(rows, code, cells, at, height, put),
-        0x00 | 0x1b | 0x1d | 0x1f | 0x34 | 0x36 | 0x38 | 0x3a | 0x3c | 0x3e => Next {
+        0xd6 => operations::do_ext(rows, code, cells, at, height, put),
+        0xea => operations::do_zero_ext(rows, code, cells, at, height, put),
+        0xed => operations::do_setv(rows, code, cells, variables, at, height, put),
+        0xe0 => operations::do_if_goto(rows, code, cells, at, height, put),
+        0xe1 => operations::do_goto(rows, code, cells, at, height, put),
+        0xe2 => operations::do_constant(rows, code, cells, 0x22, 1, at, height, put),
+        0xe3 => operations::do_constant(rows, code, cells, 0x23, 2, at, height, put),
+        0xe4 => operations::do_constant(rows, code, cells, 0x24, 4, at, height, put),
+        0xe5 => operations::do_constant(rows, code, cells, 0x25, 8, at, height, put),
+        0xe6 => operations::do_reg(rows, code, cells, registers, at, height, put),
+        0xec => operations::do_getv(rows, code, cells, variables, at, height, put),
+        0xee => recording::do_tracev(rows, code, cells, variables, buffer, at, height, put),
+        0xe7 => do_end(buffer, at, height, put),
+        0xe8 => operations::do_dup(rows, code, cells, at, height, put),
+        0xe9 => operations::do_pop(rows, code, cells, at, height, put),
+        0xeb => operations::do_swap(rows, code, cells, at, height, put),
+        0xf2 => operations::do_pick(rows, code, cells, at, height, put),
+        0xf3 => operations::do_rot(rows, code, cells, at, height, put),
+        0xc0 | 0xdb | 0xdd | 0xdf | 0xf4 | 0xf6 | 0xf8 | 0xfa | 0xfc | 0xfe => Next {
             at,
             height,
             put,
             stop: 2,
         },
-        0x01 | 0x1c | 0x1e | 0x31 | 0x35 | 0x37 | 0x39 | 0x3b | 0x3d | 0x3f => Next {
+        0xc1 | 0xdc | 0xde | 0xf1 | 0xf5 | 0xf7 | 0xf9 | 0xfb | 0xfd | 0xff => Next {
             at,
             height,
             put,

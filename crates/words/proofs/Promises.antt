@@ -1,12 +1,63 @@
--- What users of `words` may cite. The contracts of src/ are the rest.
+-- What users of `words` may cite, each law stated in full and proved where it is named. The contracts of src/ are the rest.
+use Prim.Native.Nat.{ℕ, _+_, _^_, _≤_, _<_}
+use mathlib.Core.Bool.{Bool, true, false, _&&_}
+use mathlib.Core.List.{List, _++_}
+use mathlib.Core.Path.{_≡_}
+use lib.Dec.{T, eqb}
+use lib.ListN.{length}
+use Rattle.report.specs.Hex.{isBlank}
+use Rattle.words.specs.Words.{leading, isInWord, Word, firstWord, IsAt, sameBytes}
+use Rattle.words.specs.Numbers.{isDigit, valueFrom, limited, numberIn}
+use Rattle.words.specs.declared.Place.{Place}
+use Rattle.words.specs.declared.numbers.Number.the-variants.{Value}
+use Rattle.words.proofs.Leading as leads
+use Rattle.words.proofs.Wording as wording
+use Rattle.words.proofs.Same as same
+use Rattle.words.proofs.Numbering as numbering
+-- `all p l`: every character of l passes the test p. `stops p l`: the first does not, or there is none.
+pub use Rattle.words.proofs.Leading.{all, stops}
 
--- `all p l`: every character of l passes the test p. `stops p l`: the first does not, or there is none. `all-leading`: a text that passes as a whole, and goes
--- on with one that does not pass, has as many leading characters as the first has.
-pub use Rattle.words.proofs.Leading.{all, stops, truth, both, all-append, all-leading}
--- `first-word`: blanks, a word and what does not go on with it have that word as the first. `last-blanks`: blanks alone have no word.
--- `no-word`, `a-word`: what the code says of a word's place tells whether there is one.
-pub use Rattle.words.proofs.Wording.{first-word, last-blanks, no-word, a-word}
--- `same-sound`: texts that are found the same are.
-pub use Rattle.words.proofs.Same.{same-sound}
--- `limited-value`: 64 bits hold a number below 2^64. `unsigned-all`: a word of digits alone is the number that they spell.
-pub use Rattle.words.proofs.Numbering.{limited-value, unsigned-all}
+-- ---- texts that pass a test
+pub truth : (b : Bool) → T b → b ≡ true
+truth = leads.truth
+
+pub both : (x y : Bool) → T x → T y → T (x && y)
+both = leads.both
+
+pub all-append : (p : ℕ → Bool) (a b : List ℕ) → T (all p a) → T (all p b) → T (all p (a ++ b))
+all-append = leads.all-append
+
+-- a text that passes, and goes on with one that does not, has as many leading characters as it is long
+pub all-leading : (p : ℕ → Bool) (a r : List ℕ) → T (all p a) → T (stops p r) → leading p (a ++ r) ≡ length a
+all-leading = leads.all-leading
+
+-- ---- words
+-- blanks, a word, and what does not go on with it: the word is the first
+pub first-word : (p : ℕ) (b w r : List ℕ) → T (all isBlank b) → T (all isInWord w) → T (stops isBlank w) → 0 < length w → T (stops isInWord r)
+    → firstWord p (b ++ (w ++ r)) ≡ record { column = p + length b; bytes = w; rest = r }
+first-word = wording.first-word
+
+-- blanks alone have no word
+pub last-blanks : (p : ℕ) (b : List ℕ) → T (all isBlank b) → length (firstWord p b .bytes) ≡ 0
+last-blanks = wording.last-blanks
+
+-- the place that the code finds tells whether there is a word
+module _ {line : List ℕ} {r : Place} {w : Word} (i : IsAt line r w) where
+  pub no-word : r .start ≡ r .end → eqb (length (w .bytes)) 0 ≡ true
+  no-word = wording.no-word i
+
+  pub a-word : (r .start ≡ r .end → ⊥) → eqb (length (w .bytes)) 0 ≡ false
+  a-word = wording.a-word i
+
+-- texts that are found the same are
+pub same-sound : (xs ys : List ℕ) → T (sameBytes xs ys) → xs ≡ ys
+same-sound = same.same-sound
+
+-- ---- numbers
+-- 64 bits hold a number below 2 ^ 64
+pub limited-value : (v : ℕ) → v < 2 ^ 64 → Value v ≡ limited v
+limited-value = numbering.limited-value
+
+-- a word of digits alone is the number that they spell
+pub unsigned-all : (base : ℕ) (w : List ℕ) (n : ℕ) → n ≡ leading (isDigit base) w → (n ≡ 0 → ⊥) → length w ≤ n → limited (valueFrom base 0 w) ≡ numberIn base w
+unsigned-all = numbering.unsigned-all

@@ -1,4 +1,4 @@
-use Rattle.operations.proofs.Cases.{held-top}
+use Rattle.isa.proofs.Promises.{held-top}
 use mathlib.Core.Path.{refl}
 use native.Mathlib.Omega.{arith}
 use Rattle.operations.proofs.Placing.{next-here}

@@ -1,6 +1,6 @@
 use mathlib.Core.Path.{refl}
 use native.Mathlib.Omega.{arith}
-use Rattle.operations.proofs.Cases.{held-top}
+use Rattle.isa.proofs.Promises.{held-top}
 use Rattle.operations.proofs.Placing.{next-here}
 use borrow.Author.Needs.{needs}
 use Rattle.operations.proofs.do_setv.Statement.{statement}

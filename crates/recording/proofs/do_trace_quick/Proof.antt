@@ -5,7 +5,8 @@ use denote.Ref.{now}
 use Rattle.isa.specs.Held.{held}
 use Rattle.operations.proofs.Placing.{next-here}
 use Rattle.recording.proofs.Making.{range-fed}
-use Rattle.recording.proofs.Logging.{kept-as, logged, held-top}
+use Rattle.isa.proofs.Promises.{held-top}
+use Rattle.recording.proofs.Logging.{kept-as, logged}
 use borrow.Author.Needs.{needs}
 use Rattle.recording.proofs.do_trace_quick.Statement.{statement}
 use Rattle.recording.proofs.do_trace_quick.Tie as tie
