@@ -13,14 +13,8 @@ use Rattle.report.proofs.Promises.{append-assoc}
 use Rattle.machine.specs.Machine.{Answer, no-value, top, top-and-beneath}
 use Rattle.phrases.specs.Numbers.{countText, hexText, significant, valueText}
 use Rattle.phrases.proofs.Promises.{count-length, value-length}
-use Rattle.answers.specs.Outcome.{stepsText, cellsText, completedBy, isNarrow, completedText}
+use Rattle.answers.specs.Outcome.{stepsText, cellsText, completedBy, isNarrow, completedText, IsWords}
 use Rattle.answers.proofs.Answering.{completed-one, completed-two}
-
--- the cells of an answer are words of 64 bits
-abbrev pub IsWords : Answer → Type 0
-IsWords no-value = Unit {0}
-IsWords (top x) = x < 2 ^ 64
-IsWords (top-and-beneath x y) = (x < 2 ^ 64) × (y < 2 ^ 64)
 
 steps-length : (n : ℕ) → n < 2 ^ 64 → length (bytesOf "completed" ++ stepsText n) ≤ 44
 unfolding stepsText

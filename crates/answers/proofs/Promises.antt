@@ -6,13 +6,13 @@ use mathlib.Core.Path.{_≡_}
 use lib.ListN.{length}
 use Rattle.report.specs.Text.{bytesOf}
 use Rattle.machine.specs.Machine.{Answer}
-use Rattle.answers.specs.Outcome.{isNarrow, completedText}
-use Rattle.answers.proofs.Columns.{IsWords, one-line, two-lines}
+use Rattle.answers.specs.Outcome.{isNarrow, completedText, IsWords}
+use Rattle.answers.proofs.Columns as columns
 
 -- ---- the answer of a completed run, whose numbers are words of 64 bits, is a line of at most 100 columns, or two
 pub narrow-line : (a : Answer) (n : ℕ) → isNarrow a n ≡ true → (l : List ℕ) × (completedText a n ≡ l ++ bytesOf "\n") × (length l ≤ 100)
-narrow-line = one-line
+narrow-line = columns.one-line
 
 pub wide-lines : (a : Answer) (n : ℕ) → isNarrow a n ≡ false → IsWords a → n < 2 ^ 64
     → (l : List ℕ) × (m : List ℕ) × (completedText a n ≡ l ++ bytesOf "\n" ++ m ++ bytesOf "\n") × (length l ≤ 100) × (length m ≤ 100)
-wide-lines = two-lines
+wide-lines = columns.two-lines

@@ -1,5 +1,5 @@
 -- What came of a run, in lines.
-use Prim.Native.Nat.{ℕ}
+use Prim.Native.Nat.{ℕ, _^_, _<_}
 use mathlib.Core.Bool.{Bool, cond}
 use mathlib.Core.List.{List, _++_}
 use lib.Dec.{leb}
@@ -49,3 +49,9 @@ changeText j before after = bytesOf "  variable " ++ decimal j ++ bytesOf ": " +
 -- `buffer: 21 of 65536 bytes used`
 unfoldable pub bufferText : ℕ → ℕ → List ℕ
 bufferText u n = bytesOf "buffer: " ++ decimal u ++ bytesOf " of " ++ countText n (bytesOf "byte") ++ bytesOf " used\n"
+
+-- the cells of an answer are words of 64 bits
+abbrev pub IsWords : Answer → Type 0
+IsWords no-value = Unit {0}
+IsWords (top x) = x < 2 ^ 64
+IsWords (top-and-beneath x y) = (x < 2 ^ 64) × (y < 2 ^ 64)
