@@ -98,7 +98,7 @@ static inline const char *lilivrez_refusal_words(uint32_t number)
         "the memory range cannot be read as a whole",
         "more than 65535 bytes to record at once",
         "too little room left in the trace buffer",
-        "the trailer of the frame is broken",
+        "the trailer before this offset is broken",
         "a record of the frame is broken",
         "there is no such frame",
         "there is no such record in the frame",

@@ -4,16 +4,16 @@ use native.Mathlib.Omega.{arith}
 use mathlib.Core.Bool.{true, false}
 use mathlib.Core.List.{List, [], _++_}
 use mathlib.Core.Path.{_≡_, sym, _∙_}
-use lib.Dec.{leb}
+use lib.Dec.{leb, ltb}
 use lib.ListN.{length, getD}
-use borrow.Author.Tests.{eq-eqb, ne-eqb, le-leb, lt-leb}
+use borrow.Author.Tests.{eq-eqb, ne-eqb, le-leb, lt-leb, lt-ltb, le-ltb}
 use Rattle.encoding.proofs.Promises.{cases}
 use Rattle.report.specs.Text.{bytesOf, Text}
 use Rattle.listing.specs.Numbers.{decimal}
 use Rattle.listing.specs.Text.{isInstruction, plainAt}
 use Rattle.machine.specs.Machine.{Answer}
 use Rattle.answers.specs.Verdict.{opcodeText, thereText, instructionOf, heightText}
-use Rattle.answers.specs.Outcome.{completedBy, isNarrow, completedText}
+use Rattle.answers.specs.Outcome.{completedBy, isNarrow, completedText, isOfInstruction, instructionLine}
 
 -- ---- what stands at an offset
 module _ (e : List ℕ) (k : ℕ) where
@@ -64,3 +64,30 @@ module _ (a : Answer) (n : ℕ) where
   pub completed-two : isNarrow a n ≡ false → completedBy (bytesOf ",\n  beneath ") a n ≡ completedText a n
   unfolding completedText
   completed-two q = rw q
+
+-- ---- the instruction of a refused run
+module _ (r : ℕ) where
+  pub of-whole : r ≡ 1 → false ≡ isOfInstruction r
+  unfolding isOfInstruction
+  of-whole h = rw (eq-eqb r 1 h)
+
+  pub of-low : (r ≡ 1 → ⊥) → r < 12 → true ≡ isOfInstruction r
+  unfolding isOfInstruction
+  of-low h g = rw (ne-eqb r 1 h, lt-ltb r 12 g)
+
+  pub of-high : (r ≡ 1 → ⊥) → 12 ≤ r → ltb 15 r ≡ isOfInstruction r
+  unfolding isOfInstruction
+  of-high h g = rw (ne-eqb r 1 h, le-ltb r 12 g)
+
+module _ (e : List ℕ) (r k : ℕ) where
+  pub line-of-none : isOfInstruction r ≡ false → [] ≡ instructionLine e r k
+  unfolding instructionLine
+  line-of-none q = rw q
+
+  pub line-no-whole : isOfInstruction r ≡ true → isInstruction e k ≡ false → [] ≡ instructionLine e r k
+  unfolding instructionLine
+  line-no-whole q p = rw (q, p)
+
+  pub line-of-some : isOfInstruction r ≡ true → isInstruction e k ≡ true → bytesOf "  instruction: " ++ plainAt e k ++ bytesOf "\n" ≡ instructionLine e r k
+  unfolding instructionLine
+  line-of-some q p = rw (q, p)

@@ -14,7 +14,7 @@ use Rattle.runner.specs.Returned.{completedWith, refusedWith}
 use Rattle.phrases.specs.Numbers.{countText, hexText, significant, valueText}
 use Rattle.phrases.specs.Refused.{refusedAt}
 use Rattle.answers.specs.Verdict.{acceptedText, opcodeText, thereText, instructionOf, refusedLine, verdictText, heightText}
-use Rattle.answers.specs.Outcome.{stepsText, cellsText, completedBy, isNarrow, completedText, refusedText, outcomeText, changeText, bufferText}
+use Rattle.answers.specs.Outcome.{stepsText, cellsText, completedBy, isNarrow, completedText, isOfInstruction, instructionLine, refusedText, outcomeText, changeText, bufferText}
 
 an-accepted : verdictText (0x22 ∷ 0x05 ∷ 0x22 ∷ 0x03 ∷ 0x02 ∷ 0x27 ∷ []) (accepted 4 2 4) ≡ bytesOf "accepted: 4 instructions, greatest height 2, longest walk 4\n"
 unfolding decimalBy decimal countText acceptedText verdictText
@@ -39,7 +39,7 @@ some-heights = refl
 
 -- no value, the top, the top and the cell beneath
 completed-runs :
-    map outcomeText (completedWith no-value 1 0 ∷ completedWith (top 8) 4 0 ∷ completedWith (top-and-beneath 3 5) 3 0 ∷ [])
+    map (outcomeText []) (completedWith no-value 1 0 ∷ completedWith (top 8) 4 0 ∷ completedWith (top-and-beneath 3 5) 3 0 ∷ [])
     ≡ bytesOf "completed after 1 step: no value\n" ∷ bytesOf "completed after 4 steps: top 8 (0x8)\n" ∷ bytesOf "completed after 3 steps: top 3 (0x3), beneath 5 (0x5)\n" ∷ []
 unfolding decimalBy decimal countText hexText significant valueText stepsText cellsText completedBy isNarrow completedText outcomeText
 completed-runs = refl
@@ -49,9 +49,15 @@ in-two-lines : completedBy (bytesOf ",\n  beneath ") (top-and-beneath 3 5) 3 ≡
 unfolding decimalBy decimal countText hexText significant valueText stepsText cellsText completedBy
 in-two-lines = refl
 
-a-refused-run : outcomeText (refusedWith 17 4 3) ≡ bytesOf "refused 17 at offset 4 after 3 steps: division by zero\n"
-unfolding decimalBy decimal countText refusedAt stepsText refusedText outcomeText
+-- with the instruction that is refused; and refusal 13, which is of no instruction
+a-refused-run : outcomeText (0x22 ∷ 0x05 ∷ 0x22 ∷ 0x00 ∷ 0x05 ∷ 0x27 ∷ []) (refusedWith 17 4 2)
+    ≡ bytesOf "refused 17 at offset 4 after 2 steps: division by zero\n  instruction: div_signed\n"
+unfolding bigEndian opcodes classOf operand names nameOf decimalBy decimal signed operandText namedAt isInstruction plainAt countText refusedAt stepsText isOfInstruction instructionLine refusedText outcomeText
 a-refused-run = refl
+
+a-refused-input : outcomeText (0x27 ∷ []) (refusedWith 13 0 0) ≡ bytesOf "refused 13 at offset 0 after 0 steps: the two memory spans overlap\n"
+unfolding decimalBy decimal countText refusedAt stepsText isOfInstruction instructionLine refusedText outcomeText
+a-refused-input = refl
 
 a-change : changeText 3 0 42 ≡ bytesOf "  variable 3: 0 -> 42\n"
 unfolding decimalBy decimal changeText

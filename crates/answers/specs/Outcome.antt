@@ -1,12 +1,13 @@
 -- What came of a run, in lines.
 use Prim.Native.Nat.{ℕ, _^_, _<_}
-use mathlib.Core.Bool.{Bool, cond}
-use mathlib.Core.List.{List, _++_}
-use lib.Dec.{leb}
+use mathlib.Core.Bool.{Bool, true, false, cond}
+use mathlib.Core.List.{List, [], _++_}
+use lib.Dec.{leb, ltb, eqb}
 use lib.ListN.{length}
 use Rattle.report.specs.Text.{bytesOf}
 use Rattle.report.specs.Refusals.{refusalOf}
 use Rattle.listing.specs.Numbers.{decimal}
+use Rattle.listing.specs.Text.{isInstruction, plainAt}
 use Rattle.machine.specs.Machine.{Answer, no-value, top, top-and-beneath}
 use Rattle.runner.specs.Returned.{Returned, completedWith, refusedWith}
 use Rattle.phrases.specs.Numbers.{countText, valueText}
@@ -33,14 +34,22 @@ isNarrow a n = leb (length (completedBy (bytesOf ", beneath ") a n)) 101
 unfoldable pub completedText : Answer → ℕ → List ℕ
 completedText a n = cond (isNarrow a n) (completedBy (bytesOf ", beneath ") a n) (completedBy (bytesOf ",\n  beneath ") a n)
 
--- `refused N at offset K after S steps: WORDS`
-unfoldable pub refusedText : ℕ → ℕ → ℕ → List ℕ
-refusedText r k n = refusedAt r k ++ stepsText n ++ bytesOf (refusalOf r) ++ bytesOf "\n"
+-- 1 is of the expression as a whole, 12 to 15 of spans, registers and buffer; every other refusal is of an instruction
+unfoldable pub isOfInstruction : ℕ → Bool
+isOfInstruction r = cond (eqb r 1) false (cond (ltb r 12) true (ltb 15 r))
 
--- the lines for what a run returns
-unfoldable pub outcomeText : Returned → List ℕ
-outcomeText (completedWith a n u) = completedText a n
-outcomeText (refusedWith r k n) = refusedText r k n
+-- the instruction that is refused, in a line of its own, where a whole one stands there
+unfoldable pub instructionLine : List ℕ → ℕ → ℕ → List ℕ
+instructionLine e r k = cond (isOfInstruction r) (cond (isInstruction e k) (bytesOf "  instruction: " ++ plainAt e k ++ bytesOf "\n") []) []
+
+-- `refused N at offset K after S steps: WORDS`, and the instruction
+unfoldable pub refusedText : List ℕ → ℕ → ℕ → ℕ → List ℕ
+refusedText e r k n = refusedAt r k ++ stepsText n ++ bytesOf (refusalOf r) ++ bytesOf "\n" ++ instructionLine e r k
+
+-- the lines for what a run of the expression e returns
+unfoldable pub outcomeText : List ℕ → Returned → List ℕ
+outcomeText e (completedWith a n u) = completedText a n
+outcomeText e (refusedWith r k n) = refusedText e r k n
 
 -- `  variable 3: 0 -> 42`
 unfoldable pub changeText : ℕ → ℕ → ℕ → List ℕ

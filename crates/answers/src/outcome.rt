@@ -3,7 +3,9 @@ ghost use mathlib.Core.Path.{_≡_};
 ghost use Rattle.io.specs.Counts.{Counts};
 ghost use Rattle.report.specs.Text.{Appends};
 ghost use Rattle.runner.specs.Returned.{answerOf, returnedBy};
-ghost use Rattle.answers.specs.Outcome.{stepsText, cellsText, completedBy, isNarrow, completedText, refusedText, outcomeText, changeText, bufferText};
+ghost use Rattle.answers.specs.Outcome.{stepsText, cellsText, completedBy, isNarrow, completedText, isOfInstruction, instructionLine, refusedText, outcomeText, changeText, bufferText};
+use listing::writing::append_plain;
+use listing::writing::is_instruction;
 use phrases::numbers::append_count;
 use phrases::numbers::append_value;
 use phrases::refused::append_refused_at;
@@ -71,24 +73,62 @@ fn append_completed(out: &mut [u8], at: usize, value: Value, steps: u64) -> usiz
     append_completed_by(out, at, b",\n  beneath ", value, steps)
 }
 
-fn append_refused(out: &mut [u8], at: usize, refusal: u8, offset: usize, steps: u64) -> usize
+fn is_of_instruction(refusal: u8) -> bool
+    ensures { λ r. ⌜ r ≡ isOfInstruction refusal ⌝ }
+{
+    if refusal == 1 {
+        return false;
+    }
+    if refusal < 12 {
+        return true;
+    }
+    15 < refusal
+}
+
+// The instruction that is refused, in a line of its own: with the refusal it would not always fit one line.
+fn append_instruction(out: &mut [u8], at: usize, code: &[u8], refusal: u8, offset: usize) -> usize
     ensures count { λ r. ⌜ Counts r (now (out .exit)) ⌝ }
-    ensures text { λ r. ⌜ Appends (now (out .entry)) at (refusedText refusal offset steps) (now (out .exit)) r ⌝ }
+    ensures text { λ r. ⌜ Appends (now (out .entry)) at (instructionLine (now (code .entry)) refusal offset) (now (out .exit)) r ⌝ }
+{
+    if !is_of_instruction(refusal) {
+        return append(out, at, b"");
+    }
+    if !is_instruction(code, offset) {
+        return append(out, at, b"");
+    }
+    let a = append(out, at, b"  instruction: ");
+    let b = append_plain(out, a, code, offset);
+    append(out, b, b"\n")
+}
+
+fn append_refused(
+    out: &mut [u8],
+    at: usize,
+    code: &[u8],
+    refusal: u8,
+    offset: usize,
+    steps: u64,
+) -> usize
+    ensures count { λ r. ⌜ Counts r (now (out .exit)) ⌝ }
+    ensures text { λ r. ⌜ Appends (now (out .entry)) at (refusedText (now (code .entry)) refusal offset steps) (now (out .exit)) r ⌝ }
 {
     let a = append_refused_at(out, at, refusal, offset);
     let b = append_steps(out, a, steps);
     let c = append_refusal(out, b, refusal);
-    append(out, c, b"\n")
+    let d = append(out, c, b"\n");
+    append_instruction(out, d, code, refusal, offset)
 }
 
-// Appends what a run returns.
-pub fn append_outcome(out: &mut [u8], at: usize, outcome: Outcome) -> usize
+// Appends what a run of the expression returns.
+pub fn append_outcome(out: &mut [u8], at: usize, code: &[u8], outcome: Outcome) -> usize
     ensures count { λ r. ⌜ Counts r (now (out .exit)) ⌝ }
-    ensures text { λ r. ⌜ Appends (now (out .entry)) at (outcomeText (returnedBy outcome)) (now (out .exit)) r ⌝ }
+    ensures text { λ r. ⌜ Appends (now (out .entry)) at (outcomeText (now (code .entry)) (returnedBy outcome)) (now (out .exit)) r ⌝ }
 {
     match outcome {
         Outcome::Completed(value, steps, used) => append_completed(out, at, value, steps),
-        Outcome::Refused(refusal, offset, steps) => append_refused(out, at, refusal, offset, steps),
+        Outcome::Refused(refusal, offset, steps) => {
+            append_refused(out, at, code, refusal, offset, steps)
+        }
     }
 }
 

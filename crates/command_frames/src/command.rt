@@ -7,6 +7,7 @@ use crate::show::print_one_record;
 use files::Loaded;
 use output::print_error;
 use output::print_error_of;
+use output::refuse_option;
 use words::numbers::Number;
 
 // ---- the words of the command
@@ -16,16 +17,6 @@ enum Asked {
     Export,
     Frame(u64),
     Record(u64, u64),
-}
-
-fn is_option(word: &[u8]) -> bool {
-    if word.len() < 2 {
-        return false;
-    }
-    if word[0] != b'-' {
-        return false;
-    }
-    word[1] == b'-'
 }
 
 // The number that a word of the command is; where it is none, the error is printed.
@@ -38,8 +29,7 @@ fn read_number(word: &[u8]) -> Number {
             Number::Large
         }
         Number::Not => {
-            if is_option(word) {
-                print_error_of(word, b"unknown option: lilivrez help lists what there is");
+            if refuse_option(word) {
                 return Number::Not;
             }
             print_error_of(word, b"not a number from 0 on, in decimal digits");
@@ -121,9 +111,22 @@ fn is_export() -> bool {
     check::same(&word[..n], b"--gdb")
 }
 
+// Whether OUT is FILE, by name.
+fn is_same_file() -> bool {
+    let mut name = io::buffer();
+    let n = os::arg(2, &mut name);
+    let mut out = io::buffer();
+    let m = os::arg(4, &mut out);
+    check::same(&name[..n], &out[..m])
+}
+
 fn show_export(count: usize) {
     if count == 4 {
         print_error(b"OUT is missing: write lilivrez frames FILE --gdb OUT");
+        return;
+    }
+    if is_same_file() {
+        print_error(b"OUT is FILE: the saved trace buffer would be lost");
         return;
     }
     show_named(Asked::Export);
@@ -135,10 +138,23 @@ fn refuse_word(i: usize) {
     print_error_of(&word[..n], b"a word too many");
 }
 
+fn refuse_option_at(i: usize) -> bool {
+    let mut word = io::buffer();
+    let n = os::arg(i, &mut word);
+    if check::same(&word[..n], b"--gdb") {
+        print_error(b"FILE comes before --gdb: write lilivrez frames FILE --gdb OUT");
+        return true;
+    }
+    refuse_option(&word[..n])
+}
+
 pub fn run() {
     let count = os::arg_count();
     if count < 3 {
         print_error(b"FILE is missing: write lilivrez frames FILE, or lilivrez help");
+        return;
+    }
+    if refuse_option_at(2) {
         return;
     }
     if 5 < count {

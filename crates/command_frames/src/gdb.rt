@@ -3,11 +3,12 @@ use crate::show::frame_refusal;
 use crate::show::print_completed_frames;
 use crate::show::print_frame;
 use crate::show::records_of;
-use libc::STDOUT_FILENO;
 use output::print;
 use output::print_error_of;
+use phrases::numbers::append_count;
 use reader::Place;
 use reader::Reading;
+use std::num::wrapping_add_u64;
 
 // ---- the pieces of the file
 fn write_start(fd: i32, frames: u64) -> bool {
@@ -125,74 +126,105 @@ fn write_file(fd: i32, buffer: &[u8], used: usize, frames: u64) -> bool {
 // ---- what cannot be carried over
 fn note_file() {
     print(
-        b"note: variables have numbers one higher in the file: $v0 is number 1, $v63 number 64\n",
+        b"note: variables have numbers one higher in the file: $v0 is number 1, $v63 number 64
+note: of a variable that a frame recorded twice GDB shows the last value
+note: GDB numbers tracepoints anew; info tracepoints shows the recorded number as the address
+note: GDB's tdump shows nothing: no collect commands are recorded; x and print do
+note: the file names the architecture i386:x86-64: none is recorded
+",
     );
-    print(b"note: the address of a tracepoint is its number in the file: no address is recorded\n");
-    print(b"note: GDB's tdump shows nothing: no collect commands are recorded; x and print do\n");
 }
 
-fn note(number: u64, what: &[u8]) {
-    print(b"note: frame ");
-    io::print_decimal(STDOUT_FILENO, number);
-    print(what);
+// How much GDB cannot show as it was recorded: frames of tracepoint 0 and of one above 32767, and records that end at the last address.
+struct Lost {
+    zero: u64,
+    large: u64,
+    last: u64,
 }
 
-fn note_tracepoint(buffer: &[u8], used: usize, number: u64) {
+fn one_if(is_met: bool) -> u64 {
+    if is_met { 1 } else { 0 }
+}
+
+fn tracepoint_of(buffer: &[u8], used: usize, number: u64) -> u16 {
     match reader::locate(buffer, used, number) {
-        Place::NoFrame(refusal, offset) => {
-            return;
-        }
-        Place::Frame(tracepoint, start, length) => {
-            if tracepoint == 0 {
-                note(
-                    number,
-                    b": GDB ends its list of frames before one of tracepoint 0\n",
-                );
-            }
-            if 32767 < tracepoint {
-                note(
-                    number,
-                    b": GDB shows a tracepoint number from 32768 on as negative\n",
-                );
-            }
-        }
+        Place::NoFrame(refusal, offset) => 1,
+        Place::Frame(tracepoint, start, length) => tracepoint,
     }
 }
 
-fn note_record(buffer: &[u8], used: usize, number: u64, index: u64) {
+fn ends_last(buffer: &[u8], used: usize, number: u64, index: u64) -> bool {
     match reader::read(buffer, used, number, index) {
-        Reading::NoReading(refusal, offset) => {
-            return;
-        }
-        Reading::Variable(tracepoint, variable, value) => {
-            return;
-        }
+        Reading::NoReading(refusal, offset) => false,
+        Reading::Variable(tracepoint, variable, value) => false,
         Reading::Memory(tracepoint, address, length, place) => {
-            if u64::MAX - address < length as u64 {
-                note(
-                    number,
-                    b": GDB cannot show a range that ends at the last address\n",
-                );
-            }
+            u64::MAX - address < length as u64
         }
     }
 }
 
-fn note_records(buffer: &[u8], used: usize, number: u64, records: usize) {
+fn count_last(buffer: &[u8], used: usize, number: u64, records: usize) -> u64 {
+    let mut count: u64 = 0;
     let mut index = 0;
     while index < records {
-        note_record(buffer, used, number, index as u64);
+        count = wrapping_add_u64(count, one_if(ends_last(buffer, used, number, index as u64)));
         index += 1;
     }
+    count
+}
+
+fn with_frame(lost: Lost, tracepoint: u16, last: u64) -> Lost {
+    Lost {
+        zero: wrapping_add_u64(lost.zero, one_if(tracepoint == 0)),
+        large: wrapping_add_u64(lost.large, one_if(32767 < tracepoint)),
+        last: wrapping_add_u64(lost.last, last),
+    }
+}
+
+fn count_lost(buffer: &[u8], used: usize, frames: u64) -> Lost {
+    let mut lost = Lost {
+        zero: 0,
+        large: 0,
+        last: 0,
+    };
+    let mut number: u64 = 0;
+    while number < frames {
+        let tracepoint = tracepoint_of(buffer, used, number);
+        let last = count_last(buffer, used, number, records_of(buffer, used, number));
+        lost = with_frame(lost, tracepoint, last);
+        number += 1;
+    }
+    lost
+}
+
+fn note(count: u64, word: &[u8], what: &[u8]) {
+    if count == 0 {
+        return;
+    }
+    let mut line = [0u8; 120];
+    let a = report::text::append(&mut line, 0, b"note: ");
+    let b = append_count(&mut line, a, count, word);
+    let n = report::text::append(&mut line, b, what);
+    print(&line[..n]);
 }
 
 fn note_frames(buffer: &[u8], used: usize, frames: u64) {
-    let mut number: u64 = 0;
-    while number < frames {
-        note_tracepoint(buffer, used, number);
-        note_records(buffer, used, number, records_of(buffer, used, number));
-        number += 1;
-    }
+    let lost = count_lost(buffer, used, frames);
+    note(
+        lost.zero,
+        b"frame",
+        b" of tracepoint 0: GDB ends its list of frames before one\n",
+    );
+    note(
+        lost.large,
+        b"frame",
+        b" of a tracepoint from 32768 on: GDB shows its number as negative\n",
+    );
+    note(
+        lost.last,
+        b"record",
+        b" up to the last address: GDB cannot show such a range\n",
+    );
 }
 
 // ---- the command

@@ -5,10 +5,10 @@ use answers::outcome::append_outcome;
 use output::print;
 use runner::Outcome;
 
-pub fn print_outcome(outcome: Outcome) {
-    let mut line = [0u8; 160];
-    let n = append_outcome(&mut line, 0, outcome);
-    print(&line[..n]);
+pub fn print_outcome(code: &[u8], outcome: Outcome) {
+    let mut lines = [0u8; 200];
+    let n = append_outcome(&mut lines, 0, code, outcome);
+    print(&lines[..n]);
 }
 
 fn print_change(number: usize, before: u64, after: u64) {

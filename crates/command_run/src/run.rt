@@ -1,4 +1,6 @@
 // The lines of a scenario, one after the other, up to the first that is wrong.
+ghost use mathlib.Core.Path.{_≡_};
+ghost use lib.ListN.{length};
 use crate::outcome::print_buffer;
 use crate::outcome::print_changes;
 use crate::outcome::print_outcome;
@@ -16,6 +18,7 @@ use files::save;
 use output::print_error;
 use output::print_error_at;
 use output::print_error_of;
+use output::refuse_option;
 use report::hex::Decoded;
 use runner::Outcome;
 use scenario::Fault;
@@ -180,7 +183,7 @@ fn run_code<'a>(
 ) -> Setting {
     let before = *variables;
     let outcome = run_given(code, setting, registers, image, memory, variables, buffer);
-    print_outcome(outcome);
+    print_outcome(code, outcome);
     match outcome {
         Outcome::Completed(value, steps, used) => {
             print_changes(&before, variables);
@@ -432,13 +435,20 @@ fn take_line(
     )
 }
 
+// Room for the bytes of a span.
+fn span_buffer() -> [u8; 1048576]
+    ensures { λ r. ⌜ 1048576 ≡ length r ⌝ }
+{
+    [0; 1048576]
+}
+
 // The number of a line also bounds the loop, for its proof.
 fn run_lines(fd: i32, name: &[u8]) {
     let mut input = io::large_buffer();
     let mut text = io::large_buffer();
     let mut registers = [0u64; 257];
-    let mut image = io::large_buffer();
-    let mut memory = io::large_buffer();
+    let mut image = span_buffer();
+    let mut memory = span_buffer();
     let mut variables = [0u64; 64];
     let mut buffer = io::large_buffer();
     let mut setting = start();
@@ -495,6 +505,9 @@ pub fn run() {
     let n = os::arg(2, &mut name);
     if os::errno() != 0 {
         print_error(b"the name of the file is too long");
+        return;
+    }
+    if refuse_option(&name[..n]) {
         return;
     }
     run_file(&name[..n]);

@@ -37,12 +37,21 @@ fn begins(line: &[u8], word: &[u8]) -> bool {
     check::same(&line[0..n], word)
 }
 
-// GDB prints two lines before the instructions.
+// GDB prints two lines before the instructions, and `verify` an answer before them and the bytes behind.
 fn is_heading(line: &[u8]) -> bool {
     if begins(line, b"Scope:") {
         return true;
     }
-    begins(line, b"Reg mask:")
+    if begins(line, b"Reg mask:") {
+        return true;
+    }
+    if begins(line, b"accepted: ") {
+        return true;
+    }
+    if begins(line, b"refused ") {
+        return true;
+    }
+    begins(line, b"bytes ")
 }
 
 // A comment begins at #, as in the listings of `verify --list`. The answer is the length of what stands before it.
@@ -161,8 +170,11 @@ pub fn run(is_listed: bool) {
     let mut bytes = io::large_buffer();
     let taken = take_lines(&mut bytes);
     let end = taken.end;
-    if taken.is_read {
-        answer(&bytes[0..end], is_listed);
+    if !taken.is_read {
+        return;
+    }
+    answer(&bytes[0..end], is_listed);
+    if 0 < end {
         print_bytes(&bytes[0..end]);
     }
 }

@@ -30,7 +30,7 @@ a-variable : recordText 0 1 (variableRead 7 3 42) ≡ bytesOf "  record 1: varia
 unfolding decimalBy decimal hexText significant valueText variableText recordText
 a-variable = refl
 
-a-refusal : frameText 1 (refusedCount 22 5) ≡ bytesOf "refused 22 at offset 5: the trailer of the frame is broken\n  asked: frame 1\n"
+a-refusal : frameText 1 (refusedCount 22 5) ≡ bytesOf "refused 22 at offset 5: the trailer before this offset is broken\n  asked: frame 1\n"
 unfolding decimalBy decimal refusedAt refusedText noFrameText frameText
 a-refusal = refl
 

@@ -53,7 +53,7 @@ records of a frame from its first, 0.
 
 examples:
   lilivrez verify --list '22 05 22 03 02 27'
-  gdb -batch -ex 'maint agent-eval 5+3' | lilivrez verify --from-gdb
+  gdb -batch -ex 'maint agent-eval -at main, 5+3' PROGRAM | lilivrez verify --from-gdb
 
 An answer begins with accepted, refused or completed. What is wrong with the call itself is told
 in one line on standard error that begins with error. The exit status is always 0.
@@ -71,11 +71,23 @@ fn is_help(word: &[u8]) -> bool {
     check::same(word, b"--help")
 }
 
-// Whether --help stands behind the command.
-fn asks_help() -> bool {
+fn is_help_at(i: usize) -> bool {
     let mut word = [0u8; 8];
-    let n = os::arg(2, &mut word);
+    let n = os::arg(i, &mut word);
     check::same(&word[..n], b"--help")
+}
+
+// Whether --help stands somewhere behind the command.
+fn asks_help() -> bool {
+    let count = os::arg_count();
+    let mut i = 2;
+    while i < count {
+        if is_help_at(i) {
+            return true;
+        }
+        i += 1;
+    }
+    false
 }
 
 fn run_command(word: &[u8]) {

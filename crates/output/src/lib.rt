@@ -45,3 +45,18 @@ pub fn print_error_at(name: &[u8], line: u64, column: u64, why: &[u8]) {
     print_aside(why);
     print_aside(b"\n");
 }
+
+// Whether a word is an option, where there is none; then the error is printed.
+pub fn refuse_option(word: &[u8]) -> bool {
+    if word.len() < 2 {
+        return false;
+    }
+    if word[0] != b'-' {
+        return false;
+    }
+    if word[1] != b'-' {
+        return false;
+    }
+    print_error_of(word, b"unknown option: lilivrez help lists what there is");
+    true
+}

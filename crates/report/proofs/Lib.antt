@@ -3,4 +3,5 @@ pub mod Promises
 mod Appending
 mod Hexing
 mod HexWriting
+mod HexInverse
 mod Lists

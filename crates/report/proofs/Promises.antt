@@ -1,17 +1,23 @@
 -- What users of `report` may cite. The contracts of src/ are the rest.
-use Prim.Native.Nat.{ℕ, suc, _+_, _≤_, _<_}
+use Prim.Native.Nat.{ℕ, suc, _+_, _*_, _≤_, _<_}
+use mathlib.Core.Bool.{true}
 use mathlib.Core.List.{List, [], _∷_, _++_}
 use mathlib.Core.Path.{_≡_, refl, _∙_}
 use lib.ListN.{length, drop, getD}
-use Rattle.report.specs.Hex.{whole, after, readFrom, readingOf, pairOf, hexOf}
+use Rattle.report.specs.Hex.{allLower, whole, after, readFrom, readingOf, pairOf, hexOf}
 use Rattle.report.specs.Text.{Text, Appends}
 use Rattle.report.proofs.Appending as appending
 use Rattle.report.proofs.HexWriting as writing
+use Rattle.report.proofs.HexInverse as inverse
 use Rattle.report.proofs.Lists as lists
 
 -- bytes written in hexadecimal are read back, where there is room for them
 pub hex-read-back : (l : List ℕ) (room : ℕ) → ((j : ℕ) → getD l j 0 < 256) → length l ≤ room → readingOf (hexOf l) room ≡ record { bytes = l; end = whole }
 hex-read-back l room low h = writing.hex-back 0 room l low h
+
+-- a text of 2 n lower-case digits is read whole, where there is room for n bytes, and the bytes that were read are written as the same text
+pub hex-write-back : (t : List ℕ) (n room : ℕ) → allLower t ≡ true → length t ≡ 2 * n → n ≤ room → (readingOf t room .end ≡ whole) × (hexOf (readingOf t room .bytes) ≡ t)
+hex-write-back t n room low e h = inverse.write-back 0 room n t low e h
 
 -- of a text with blanks between the bytes: nothing, a blank, and a byte at its front
 pub nothing-read : (p room : ℕ) → readFrom p room [] ≡ record { bytes = []; end = whole }

@@ -25,6 +25,14 @@ digitOf c =
     (cond (isBetween 65 70 c) (c - 55)
     (cond (isBetween 97 102 c) (c - 87) 16))
 
+-- a digit as it is written, `0` to `9` or `a` to `f`; a text of such digits only
+unfoldable pub isLower : ℕ → Bool
+isLower c = cond (isBetween 48 57 c) true (isBetween 97 102 c)
+
+unfoldable pub allLower : List ℕ → Bool
+allLower [] = true
+allLower (c ∷ t) = cond (isLower c) (allLower t) false
+
 -- what the text t gives after a digit of the value high at position p
 unfoldable pub afterHigh : ℕ → ℕ → List ℕ → Token
 afterHigh p high [] = Single

@@ -105,7 +105,7 @@ fn append_frame(out: &mut [u8], at: usize, number: u8) -> usize
     ensures text { λ r. ⌜ Appends (now (out .entry)) at (bytesOf (refusalOf number)) (now (out .exit)) r ⌝ }
 {
     match number {
-        22 => append(out, at, b"the trailer of the frame is broken"),
+        22 => append(out, at, b"the trailer before this offset is broken"),
         23 => append(out, at, b"a record of the frame is broken"),
         24 => append(out, at, b"there is no such frame"),
         25 => append(out, at, b"there is no such record in the frame"),

@@ -1,5 +1,6 @@
 -- `answers::outcome::append_outcome` meets its contract. Assumes nothing.
 use borrow.Author.Needs.{needs}
+use denote.Ref.{now}
 use mathlib.Core.Path.{sym, ap}
 use Rattle.report.proofs.Promises.{appends-same}
 use Rattle.runner.specs.Returned.{returnedBy}
@@ -24,14 +25,14 @@ same-length c = search needs
 
 returns : tie.Need-returns
 unfolding outcomeText
-returns c = (c .before .before .append-completed .ensures .0, appends-same _ _ (ap outcomeText (ap returnedBy (sym (c .before .before .before .before .before .outcome .given .1)))) (c .before .before .append-completed .ensures .1))
+returns c = let a = c .before .before .before .before .before .before .before .before .before .args in (c .before .before .append-completed .ensures .0, appends-same _ _ (ap (outcomeText (now (a .code))) (ap returnedBy (sym (c .before .before .before .before .before .outcome .given .1)))) (c .before .before .append-completed .ensures .1))
 
 same-length-2 : tie.Need-same-length-2
 same-length-2 c = search needs
 
 returns-2 : tie.Need-returns-2
 unfolding outcomeText
-returns-2 c = (c .before .before .append-refused .ensures .0, appends-same _ _ (ap outcomeText (ap returnedBy (sym (c .before .before .before .before .before .outcome2 .given .1)))) (c .before .before .append-refused .ensures .1))
+returns-2 c = let a = c .before .before .before .before .before .before .before .before .before .args in (c .before .before .append-refused .ensures .0, appends-same _ _ (ap (outcomeText (now (a .code))) (ap returnedBy (sym (c .before .before .before .before .before .outcome2 .given .1)))) (c .before .before .append-refused .ensures .1))
 
 pub append-outcome-spec : {M : Type 1} → statement M
 append-outcome-spec =

@@ -1,10 +1,11 @@
 -- `answers::outcome::append_refused` meets its contract. Assumes nothing.
 use borrow.Author.Needs.{needs}
+use denote.Ref.{now}
 use Rattle.report.proofs.Promises.{one, more}
 use Rattle.report.specs.Text.{bytesOf}
 use Rattle.report.specs.Refusals.{refusalOf}
 use Rattle.phrases.specs.Refused.{refusedAt}
-use Rattle.answers.specs.Outcome.{stepsText, refusedText}
+use Rattle.answers.specs.Outcome.{stepsText, instructionLine, refusedText}
 use Rattle.answers.proofs.outcome.append_refused.Statement.{statement}
 use Rattle.answers.proofs.outcome.append_refused.Tie as tie
 
@@ -23,12 +24,15 @@ slice-aggregate-append c = search needs
 append-requires : tie.Need-append-requires
 append-requires c κs = search needs
 
+append-instruction-requires : tie.Need-append-instruction-requires
+append-instruction-requires c κs = search needs
+
 same-length : tie.Need-same-length
 same-length c = search needs
 
 returns : tie.Need-returns
 unfolding refusedText
-returns c = let a = c .before .before .before .before .before .before .before .before .before .before .before .before .before .before .before .before .before .before .args in (c .before .before .append .ensures .0, (more (more (more (one (refusedAt (a .refusal) (a .offset)) (c .before .before .before .before .before .before .before .before .before .before .before .before .before .before .before .append-refused-at .ensures .1)) (stepsText (a .steps)) (c .before .before .before .before .before .before .before .before .before .before .before .append-steps .ensures .1)) (bytesOf (refusalOf (a .refusal))) (c .before .before .before .before .before .before .before .append-refusal .ensures .1)) (bytesOf "\n") (c .before .before .append .ensures .1)) .text)
+returns c = let a = c .before .before .before .before .before .before .before .before .before .before .before .before .before .before .before .before .before .before .before .before .before .before .before .args in (c .before .before .append-instruction .ensures .0, (more (more (more (more (one (refusedAt (a .refusal) (a .offset)) (c .before .before .before .before .before .before .before .before .before .before .before .before .before .before .before .before .before .before .before .append-refused-at .ensures .1)) (stepsText (a .steps)) (c .before .before .before .before .before .before .before .before .before .before .before .before .before .before .before .append-steps .ensures .1)) (bytesOf (refusalOf (a .refusal))) (c .before .before .before .before .before .before .before .before .before .before .before .append-refusal .ensures .1)) (bytesOf "\n") (c .before .before .before .before .before .before .append .ensures .1)) (instructionLine (now (a .code)) (a .refusal) (a .offset)) (c .before .before .append-instruction .ensures .1)) .text)
 
 pub append-refused-spec : {M : Type 1} → statement M
 append-refused-spec =
@@ -39,5 +43,6 @@ append-refused-spec =
     append-refusal-requires
     slice-aggregate-append
     append-requires
+    append-instruction-requires
     same-length
     returns)

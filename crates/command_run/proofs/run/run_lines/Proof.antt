@@ -8,7 +8,7 @@ use Rattle.command_run.proofs.run.run_lines.Tie as tie
 
 abbrev Inv-loop : tie.InvT-loop
 Inv-loop fd name input₀ text₀ registers₀ image₀ memory₀ variables₀ buffer₀ setting₀ line₀ number₀ t13 input text registers image memory variables buffer setting line number =
-    (length input ≡ 65536) × (length text ≡ 65536) × (length registers ≡ 257) × (length image ≡ 65536) × (length memory ≡ 65536) × (length buffer ≡ 65536)
+    (length input ≡ 65536) × (length text ≡ 65536) × (length registers ≡ 257) × (length image ≡ 1048576) × (length memory ≡ 1048576) × (length buffer ≡ 65536)
 
 abbrev μ-loop : tie.MeasureT-loop
 μ-loop fd name input₀ text₀ registers₀ image₀ memory₀ variables₀ buffer₀ setting₀ line₀ number₀ t13 input text registers image memory variables buffer setting line number =
@@ -23,11 +23,11 @@ large-buffer-requires-2 c κs = search needs
 large-buffer-requires-3 : tie.Need-large-buffer-requires-3 Inv-loop μ-loop
 large-buffer-requires-3 c κs = search needs
 
-large-buffer-requires-4 : tie.Need-large-buffer-requires-4 Inv-loop μ-loop
-large-buffer-requires-4 c κs = search needs
+span-buffer-requires : tie.Need-span-buffer-requires Inv-loop μ-loop
+span-buffer-requires c κs = search needs
 
-large-buffer-requires-5 : tie.Need-large-buffer-requires-5 Inv-loop μ-loop
-large-buffer-requires-5 c κs = search needs
+span-buffer-requires-2 : tie.Need-span-buffer-requires-2 Inv-loop μ-loop
+span-buffer-requires-2 c κs = search needs
 
 start-requires : tie.Need-start-requires Inv-loop μ-loop
 start-requires c κs = search needs
@@ -100,9 +100,9 @@ run-lines-spec =
     μ-loop
     large-buffer-requires
     large-buffer-requires-2
+    span-buffer-requires
+    span-buffer-requires-2
     large-buffer-requires-3
-    large-buffer-requires-4
-    large-buffer-requires-5
     start-requires
     start-of-requires
     loop-holds
