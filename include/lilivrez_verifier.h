@@ -10,6 +10,9 @@
  *  - The caller owes what no function can check: each pointer is good for the length passed with it (for an array, for its
  *    size), and aligned as C wants it. What a function writes overlaps nothing else that is passed to it; what it only reads
  *    may overlap. Where a length is 0, the pointer may be NULL. An array is never NULL.
+ *  - Until it returns, nothing that was passed may be changed by anybody else: no other thread, interrupt or device. An expression is
+ *    verified and then run as it stands: if a byte of it changes in between, the run may read and write anywhere. Memory that is live
+ *    is held still, or copied, before it is lent: else what is proved of the bytes recorded is not true of them.
  *  - It allocates nothing, keeps no pointer and has no state: it may be called from several threads at once.
  *  - It needs memcpy and memset, which the compiler calls by itself, and no other function. It uses less than 8 KB of stack.
  *  - The archives are machine code for x86-64 with the System V calling convention (Linux). They use SSE registers.

@@ -30,12 +30,13 @@ static void set_agents(void)
 
 // ---- one thing to measure
 
-enum kind { VERIFY, RUN, WALK, READ };
+enum kind { VERIFY, RUN, WALK, READ, READ_OLDEST, READ_LAST };
 
 struct task {
     enum kind kind;
     struct expression expression;
-    size_t frames;  // WALK, READ
+    size_t frames;  // WALK, READ, READ_OLDEST
+    size_t records; // READ_LAST: of the one frame
     size_t units;   // what the cost is divided by: bytecodes executed, instructions verified, frames
     size_t size;    // what grows, in the tables of growth
     double count[AGENTS], nanoseconds[AGENTS];
@@ -82,10 +83,25 @@ static uint64_t read_back(int agent, bool reads)
     return sum;
 }
 
+// READ_OLDEST: the first record of the oldest frame. READ_LAST: the last record of the newest.
+static uint32_t read_one(int agent, const struct task *t, uint64_t out[6])
+{
+    uint64_t frame = t->kind == READ_OLDEST ? t->frames - 1 : 0;
+    uint64_t record = t->kind == READ_LAST ? t->records - 1 : 0;
+    return agents[agent].read(frames, sizeof frames, frames_used, frame, record, out);
+}
+
+static bool reads_one(const struct task *t)
+{
+    return t->kind == READ_OLDEST || t->kind == READ_LAST;
+}
+
 static void prepare(const struct task *t)
 {
-    if (t->kind == WALK || t->kind == READ)
+    if (t->kind == WALK || t->kind == READ || t->kind == READ_OLDEST)
         frames_used = make_frames(frames, t->frames);
+    if (t->kind == READ_LAST)
+        frames_used = make_frame(frames, t->records);
 }
 
 static void perform(int agent, const struct task *t)
@@ -95,18 +111,20 @@ static void perform(int agent, const struct task *t)
         agents[agent].verify(t->expression.bytes, t->expression.length, out);
     else if (t->kind == RUN)
         run(agent, &t->expression, usual(), scene.variables, out);
+    else if (reads_one(t))
+        read_one(agent, t, out);
     else
         read_back(agent, t->kind == READ);
 }
 
 // ---- the tasks, in the order of the tables
 
-enum { GROWTH = 4 };
-static struct task tasks[64];
+enum { GROWTH = 4, QUICKS = 6 };
+static struct task tasks[96];
 static size_t task_count;
-static size_t runs_at, verifies_at, smallest_at, reads_at, growths_at;
+static size_t runs_at, verifies_at, smallest_at, reads_at, growths_at, quicks_at;
 
-static void add(enum kind kind, const struct expression *e, size_t frame_count)
+static struct task *add(enum kind kind, const struct expression *e, size_t frame_count)
 {
     struct task *t = &tasks[task_count++];
     uint64_t out[6];
@@ -114,19 +132,60 @@ static void add(enum kind kind, const struct expression *e, size_t frame_count)
     t->frames = frame_count;
     t->units = frame_count;
     if (e == NULL)
-        return;
+        return t;
     t->expression = *e;
     if (kind == VERIFY)
         agent_verify(e->bytes, e->length, out);
     else
         run(PLAIN_C, e, usual(), scene.variables, out);
     t->units = out[1];
+    return t;
 }
 
 static void add_verify(struct expression *e, const char *name)
 {
     e->name = name;
     add(VERIFY, e, 0);
+}
+
+static void make_growths(void)
+{
+    struct expression e;
+    growths_at = task_count;
+    for (int i = 0; i < GROWTH; i++) {
+        make_chain(&e, (size_t)128 << i);
+        add(VERIFY, &e, 0)->size = e.length;
+    }
+    for (int i = 0; i < GROWTH; i++) {
+        make_chain(&e, (size_t)128 << i);
+        struct task *t = add(RUN, &e, 0);
+        t->size = t->units;
+    }
+    for (int i = 0; i < GROWTH; i++) {
+        make_bytes(&e, (size_t)4096 << i);
+        add(RUN, &e, 0)->size = (size_t)4096 << i;
+    }
+    for (int i = 0; i < GROWTH; i++)
+        add(READ, NULL, (size_t)125 << i)->size = (size_t)125 << i;
+    for (int i = 0; i < GROWTH; i++)
+        add(READ_OLDEST, NULL, (size_t)125 << i)->size = (size_t)125 << i;
+    for (int i = 0; i < GROWTH; i++) {
+        struct task *t = add(READ_LAST, NULL, 1);
+        t->records = (size_t)64 << i;
+        t->size = make_frame(frames, t->records);
+    }
+}
+
+static void make_quicks(void)
+{
+    static const size_t sizes[QUICKS] = {8, 16, 32, 64, 128, 255};
+    struct expression e;
+    quicks_at = task_count;
+    for (int i = 0; i < QUICKS; i++) {
+        make_quick(&e, sizes[i]);
+        add(RUN, &e, 0)->size = sizes[i];
+        add(VERIFY, &e, 0); // for stepping alone
+    }
 }
 
 static void make_tasks(void)
@@ -155,33 +214,15 @@ static void make_tasks(void)
     reads_at = task_count;
     add(WALK, NULL, 1000);
     add(READ, NULL, 1000);
-    growths_at = task_count;
-    for (int i = 0; i < GROWTH; i++) {
-        make_chain(&e, (size_t)128 << i);
-        add(VERIFY, &e, 0);
-        tasks[task_count - 1].size = e.length;
-    }
-    for (int i = 0; i < GROWTH; i++) {
-        make_chain(&e, (size_t)128 << i);
-        add(RUN, &e, 0);
-        tasks[task_count - 1].size = tasks[task_count - 1].units;
-    }
-    for (int i = 0; i < GROWTH; i++) {
-        make_bytes(&e, (size_t)4096 << i);
-        add(RUN, &e, 0);
-        tasks[task_count - 1].size = (size_t)4096 << i;
-    }
-    for (int i = 0; i < GROWTH; i++) {
-        add(READ, NULL, (size_t)125 << i);
-        tasks[task_count - 1].size = (size_t)125 << i;
-    }
+    make_growths();
+    make_quicks();
 }
 
 // ---- the answers must be the same
 
 static void fail(const struct expression *e, const char *what)
 {
-    printf("the answers differ (%s):\n", what);
+    printf("the answers differ, or a workload is refused (%s):\n", what);
     for (size_t i = 0; i < e->length; i++)
         printf("%02x", e->bytes[i]);
     printf("\n");
@@ -231,6 +272,24 @@ static void compare_reading(uint64_t *seed)
     }
 }
 
+// A workload of the tables. Its runs complete, and its single reads are not refused.
+static void compare_task(const struct task *t, unsigned seen[32])
+{
+    struct expression none = {.length = 0};
+    uint64_t out[AGENTS][6];
+    unsigned completed = seen[0];
+    if (t->kind == RUN) {
+        compare_on(&t->expression, usual(), seen);
+        if (seen[0] == completed)
+            fail(&t->expression, "run, refused");
+    }
+    if (!reads_one(t))
+        return;
+    prepare(t);
+    if (read_one(0, t, out[0]) != 0 || read_one(1, t, out[1]) != 0 || memcmp(out[0], out[1], sizeof out[0]) != 0)
+        fail(&none, "one read");
+}
+
 // One in so many is what a refusal of 12 to 16 asks for.
 static bool one_in(uint64_t *seed, uint64_t many)
 {
@@ -262,8 +321,7 @@ static int check(void)
     uint64_t seed = 20260730;
     memset(buffers, 0, sizeof buffers);
     for (size_t i = 0; i < task_count; i++)
-        if (tasks[i].kind == RUN)
-            compare_on(&tasks[i].expression, usual(), seen);
+        compare_task(&tasks[i], seen);
     for (int i = 0; i < 300000; i++) {
         struct expression e;
         make_random(&e, &seed);
@@ -384,14 +442,19 @@ static void cell(double value, int digits)
     printf(" %.*f |", digits, value);
 }
 
-// A row: the task less `base`, divided by its units.
+// The task less `base`, divided by its units.
+static void costs(const struct task *t, const struct task *base, size_t units, int digits)
+{
+    for (int a = 0; a < AGENTS; a++)
+        cell((t->count[a] - (base ? base->count[a] : 0)) / (double)units, digits);
+    for (int a = 0; a < AGENTS; a++)
+        cell((t->nanoseconds[a] - (base ? base->nanoseconds[a] : 0)) / (double)units, digits);
+}
+
 static void row(const char *name, const struct task *t, const struct task *base, size_t units)
 {
     printf("| %s | %zu |", name, units);
-    for (int a = 0; a < AGENTS; a++)
-        cell((t->count[a] - (base ? base->count[a] : 0)) / (double)units, 1);
-    for (int a = 0; a < AGENTS; a++)
-        cell((t->nanoseconds[a] - (base ? base->nanoseconds[a] : 0)) / (double)units, 1);
+    costs(t, base, units, 1);
     double more = (t->count[OURS] - (base ? base->count[OURS] : 0)) / (t->count[PLAIN_C] - (base ? base->count[PLAIN_C] : 0));
     printf(" %.2f%s |\n", more, more > 1.0 ? " **above**" : "");
 }
@@ -402,18 +465,40 @@ static void head(const char *title, const char *unit)
     printf("|---|---|---|---|---|---|---|\n");
 }
 
-static void growth(const char *title, const char *unit, size_t at)
+static void growth_head(const char *title, const char *unit)
 {
     printf("\n%s\n\n| %s | instructions, library | instructions, C | ns, library | ns, C |\n|---|---|---|---|---|\n", title, unit);
-    for (size_t i = 0; i < GROWTH; i++) {
-        const struct task *t = &tasks[at + i];
-        printf("| %zu |", t->size);
-        for (int a = 0; a < AGENTS; a++)
-            cell(t->count[a], 0);
-        for (int a = 0; a < AGENTS; a++)
-            cell(t->nanoseconds[a], 0);
-        printf("\n");
-    }
+}
+
+static void growth_row(const struct task *t, const struct task *base, size_t units, int digits)
+{
+    printf("| %zu |", t->size);
+    costs(t, base, units, digits);
+    printf("\n");
+}
+
+static void growth(const char *title, const char *unit, size_t at)
+{
+    growth_head(title, unit);
+    for (size_t i = 0; i < GROWTH; i++)
+        growth_row(&tasks[at + i], NULL, 1, 0);
+}
+
+static void growths(void)
+{
+    growth("Growth: verify, over the bytes of the expression", "bytes", growths_at);
+    growth("Growth: run, over the steps", "steps", growths_at + GROWTH);
+    growth("Growth: run of four records, over the bytes recorded", "bytes", growths_at + 2 * GROWTH);
+    growth("Growth: reading back, over the frames", "frames", growths_at + 3 * GROWTH);
+    growth("Growth: one read, over the frames walked", "frames", growths_at + 4 * GROWTH);
+    growth("Growth: one read, over the bytes of the frame", "bytes", growths_at + 5 * GROWTH);
+}
+
+static void quicks(void)
+{
+    growth_head("Recording: one trace_quick, over the bytes of the record", "bytes");
+    for (size_t i = quicks_at; i < quicks_at + 2 * QUICKS; i += 2)
+        growth_row(&tasks[i], &tasks[i + 1], QUICK_TIMES, 1);
 }
 
 static int table(void)
@@ -434,10 +519,8 @@ static int table(void)
     head("Reading back 1,000 frames of two records, per frame", "frames");
     row("walking over them", &tasks[reads_at], NULL, 1000);
     row("walking, and reading both records", &tasks[reads_at + 1], NULL, 1000);
-    growth("Growth: verify, over the bytes of the expression", "bytes", growths_at);
-    growth("Growth: run, over the steps", "steps", growths_at + GROWTH);
-    growth("Growth: run of four records, over the bytes recorded", "bytes", growths_at + 2 * GROWTH);
-    growth("Growth: reading back, over the frames", "frames", growths_at + 3 * GROWTH);
+    growths();
+    quicks();
     printf("\nGreatest stack use of a whole run, with what its caller passes:");
     for (int a = 0; a < AGENTS; a++) {
         size_t most = 0;

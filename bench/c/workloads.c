@@ -195,6 +195,17 @@ void make_bytes(struct expression *e, size_t bytes)
     put(e, "27");
 }
 
+void make_quick(struct expression *e, size_t bytes)
+{
+    start(e, "quick");
+    put(e, "232000");
+    for (int i = 0; i < QUICK_TIMES; i++) {
+        put(e, "0d");
+        put_number(e, bytes, 1);
+    }
+    put(e, "27");
+}
+
 // ---- random expressions
 
 uint64_t next_random(uint64_t *seed)
@@ -279,4 +290,28 @@ size_t make_frames(uint8_t *buffer, size_t frames)
         used = out[2];
     }
     return used;
+}
+
+static uint8_t *put_little(uint8_t *p, uint64_t number, int count)
+{
+    for (int i = 0; i < count; i++)
+        *p++ = (uint8_t)(number >> 8 * i);
+    return p;
+}
+
+// Written by hand: 512 records are more than an expression of 1,024 bytes can make.
+size_t make_frame(uint8_t *buffer, size_t records)
+{
+    uint8_t *p = buffer;
+    for (size_t i = 0; i < records; i++) {
+        p = put_little(p, 0x4d, 1);
+        p = put_little(p, CHAIN + 8 * i, 8);
+        p = put_little(p, 8, 2);
+        p = put_little(p, CHAIN + 8 * (i + 1), 8);
+    }
+    size_t length = (size_t)(p - buffer);
+    p = put_little(p, 0x46, 2);
+    p = put_little(p, 7, 2);
+    p = put_little(p, length, 4);
+    return (size_t)(p - buffer);
 }

@@ -49,6 +49,7 @@ pub const UNSTORED: u64 = 0xdead_beef_0bad_f00d;
 pub trait Case: Clone + PartialEq {
     const KIND: &'static str;
     const ENTRIES: &'static [Entry];
+    const SIZES: &'static [Size] = &[];
     /// Makes cases; it may keep something from one to the next.
     type Maker: Default;
 
@@ -60,8 +61,18 @@ pub trait Case: Clone + PartialEq {
     fn expected(&self) -> Vec<Answer>;
     /// The library's.
     fn found(&self) -> Vec<Answer>;
-    /// Cases that are smaller by a step, the smallest first.
-    fn smaller(&self) -> Vec<Self>;
+    /// Cases that are smaller by a step, the smallest first; each is made when it is asked for.
+    fn smaller(&self) -> impl Iterator<Item = Self>;
+    /// The sizes of this case, whose answers these are.
+    fn sizes(&self, _answers: &[Answer]) -> Vec<u64> {
+        Vec::new()
+    }
+}
+
+/// A size of cases; the largest seen is to be this or more.
+pub struct Size {
+    pub name: &'static str,
+    pub least: u64,
 }
 
 /// What came of the cases of one kind.
@@ -70,13 +81,17 @@ pub struct Found {
     pub cases: usize,
     /// For each entry, how often each refusal, or 0 and its sort, was the answer.
     pub outcomes: Vec<BTreeMap<(u32, &'static str), usize>>,
+    pub sizes: &'static [Size],
+    /// The largest seen of each.
+    pub largest: Vec<u64>,
     pub differing: usize,
     /// The smallest differing case found, with both answers.
     pub smallest: Option<String>,
 }
 
-/// So many differing cases are made smaller.
-const MOST_SHRUNK: usize = 24;
+/// So many differing cases are kept, and of them the shortest are made smaller.
+const MOST_KEPT: usize = 24;
+const MOST_SHRUNK: usize = 3;
 
 pub fn compare<C: Case>(cases: usize, seed: u64) -> Found {
     let mut random = Random::new(seed);
@@ -86,6 +101,8 @@ pub fn compare<C: Case>(cases: usize, seed: u64) -> Found {
         entries: C::ENTRIES,
         cases,
         outcomes: C::ENTRIES.iter().map(|_| BTreeMap::new()).collect(),
+        sizes: C::SIZES,
+        largest: vec![0; C::SIZES.len()],
         differing: 0,
         smallest: None,
     };
@@ -96,17 +113,29 @@ pub fn compare<C: Case>(cases: usize, seed: u64) -> Found {
         {
             *outcomes.entry(outcome(entry, answer)).or_insert(0) += 1;
         }
+        for (largest, size) in found.largest.iter_mut().zip(case.sizes(&expected)) {
+            *largest = size.max(*largest);
+        }
         if expected != case.found() {
             found.differing += 1;
-            if differing.len() < MOST_SHRUNK {
+            if differing.len() < MOST_KEPT {
                 differing.push(case);
             }
         }
     }
-    let shrunk = differing.into_iter().map(shrink::shrink);
-    let smallest = shrunk.min_by_key(|case| case.line().len());
-    found.smallest = smallest.map(|case| difference(&case));
+    found.smallest = smallest(differing).map(|case| difference(&case));
     found
+}
+
+/// The shortest are told as they are before they are made smaller.
+fn smallest<C: Case>(mut differing: Vec<C>) -> Option<C> {
+    differing.sort_by_cached_key(|case| case.line().len());
+    differing.truncate(MOST_SHRUNK);
+    for case in &differing {
+        eprintln!("these answers differ: {} {}", C::KIND, case.line());
+    }
+    let shrunk = differing.into_iter().map(shrink::shrink);
+    shrunk.min_by_key(|case| case.line().len())
 }
 
 /// Tells of the case at hand where the evaluator panics on it.
@@ -235,8 +264,8 @@ mod tests {
             found
         }
 
-        fn smaller(&self) -> Vec<WithoutRot> {
-            self.0.smaller().into_iter().map(WithoutRot).collect()
+        fn smaller(&self) -> impl Iterator<Item = WithoutRot> {
+            self.0.smaller().map(WithoutRot)
         }
     }
 

@@ -103,28 +103,27 @@ impl Case for Fetch {
         vec![Answer::numbers(number, &out)]
     }
 
-    fn smaller(&self) -> Vec<Fetch> {
+    fn smaller(&self) -> impl Iterator<Item = Fetch> {
         let [image, work] = self.spans.each_ref();
         let numbers = shrink::numbers;
-        [
-            each(self, shrink::bytes(&image.bytes), |case, bytes| {
-                case.spans[0].bytes = bytes
-            }),
-            each(self, shrink::bytes(&work.bytes), |case, bytes| {
-                case.spans[1].bytes = bytes
-            }),
-            each(self, numbers(self.address), Fetch::move_to),
-            each(self, numbers(image.first), |case, first| {
-                case.spans[0].first = first
-            }),
-            each(self, numbers(work.first), |case, first| {
-                case.spans[1].first = first
-            }),
-            each(self, numbers(self.address), |case, address| {
-                case.address = address
-            }),
-            each(self, numbers(self.size), |case, size| case.size = size),
-        ]
-        .concat()
+        each(self, shrink::bytes(&image.bytes), |case, bytes| {
+            case.spans[0].bytes = bytes
+        })
+        .chain(each(self, shrink::bytes(&work.bytes), |case, bytes| {
+            case.spans[1].bytes = bytes
+        }))
+        .chain(each(self, numbers(self.address), Fetch::move_to))
+        .chain(each(self, numbers(image.first), |case, first| {
+            case.spans[0].first = first
+        }))
+        .chain(each(self, numbers(work.first), |case, first| {
+            case.spans[1].first = first
+        }))
+        .chain(each(self, numbers(self.address), |case, address| {
+            case.address = address
+        }))
+        .chain(each(self, numbers(self.size), |case, size| {
+            case.size = size
+        }))
     }
 }

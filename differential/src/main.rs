@@ -3,6 +3,8 @@
 mod compare;
 mod fetch;
 mod fields;
+mod long_read;
+mod long_run;
 mod read;
 mod run;
 mod shrink;
@@ -24,14 +26,15 @@ differential: compares the static libraries with the independent evaluator
       N random cases of each kind (200000), from a generator of numbers that
       begins with S (1). Prints how often each outcome came. Of a difference it
       prints the smallest case found, as a line for differential/kept; those
-      lines are compared first.
+      lines are compared first. On stderr come up to 3 cases of each kind as
+      they were before they were made smaller. One case in 64 is long.
   differential --line LINE
       one case, as such a line
   differential --help
       this text
 
-Exit status: 0 all answers are the same and each refusal was seen, 1 not so,
-2 misuse.
+Exit status: 0 all answers are the same, each refusal was seen and long cases
+too, 1 not so, 2 misuse.
 ";
 
 /// Cases compared every time, a line each; lines that begin with # are notes.
@@ -116,7 +119,7 @@ fn kept() -> Result<bool, String> {
     Ok(same)
 }
 
-/// Whether all answers are the same and each refusal was seen; prints the table and each kind's smallest difference.
+/// Whether all answers are the same, each refusal was seen and long cases too; prints the table and each kind's smallest difference.
 fn random(cases: usize, seed: u64) -> bool {
     let kinds: [fn(usize, u64) -> Found; 4] = [
         compare::<Verify>,
@@ -136,9 +139,17 @@ fn random(cases: usize, seed: u64) -> bool {
     if !never.is_empty() {
         println!("never seen: {}", never.join(", "));
     }
-    let same = never.is_empty() && all.iter().all(|found| found.differing == 0);
+    println!("largest: {}", table::largest(&all));
+    let small = table::too_small(&all);
+    if !small.is_empty() {
+        println!("too small: {}", small.join(", "));
+    }
+    let seen = never.is_empty() && small.is_empty();
+    let same = seen && all.iter().all(|found| found.differing == 0);
     if same {
-        println!("the answers for all random cases are the same, and each refusal was seen");
+        println!(
+            "the answers for all random cases are the same; each refusal and long cases were seen"
+        );
     }
     same
 }

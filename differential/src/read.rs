@@ -2,9 +2,10 @@
 //! and the frame that ends at the used length. A case's line is `BYTES LENGTH USED FRAME RECORD`: the buffer has LENGTH bytes,
 //! which are BYTES over and over.
 
-use crate::compare::{Answer, Case, Entry, UNSTORED};
+use crate::compare::{Answer, Case, Entry, Size, UNSTORED};
 use crate::fields;
 use crate::shrink::{self, each};
+use crate::{long_read, long_run};
 use evaluator::generate::reader::{self as generate, Frames};
 use evaluator::hex;
 use evaluator::random::Random;
@@ -12,6 +13,8 @@ use evaluator::reader::{self, Reading};
 use evaluator::reads::{Asked, Buffer};
 use evaluator::verify::Refused;
 use lilivrez::library;
+use std::iter;
+use std::ops::Range;
 
 #[derive(Clone, PartialEq)]
 pub struct Read {
@@ -138,9 +141,32 @@ impl Case for Read {
             },
         },
     ];
+    const SIZES: &'static [Size] = &[
+        Size {
+            name: "record bytes read",
+            least: 10_000,
+        },
+        Size {
+            name: "records in a frame",
+            least: 100,
+        },
+        Size {
+            name: "frame number found",
+            least: 100,
+        },
+    ];
     type Maker = Maker;
 
     fn any(maker: &mut Maker, random: &mut Random, number: usize) -> Read {
+        if long_run::is_long(number) {
+            let (buffer, [used, frame, record]) = long_read::any(random);
+            return Read {
+                buffer,
+                used,
+                frame,
+                record,
+            };
+        }
         if number.is_multiple_of(TIMES) {
             maker.frames = generate::any_frames(random);
         }
@@ -202,26 +228,48 @@ impl Case for Read {
         answers((read, record), (count, records), (walk, frame))
     }
 
-    fn smaller(&self) -> Vec<Read> {
-        let bytes = self.buffer.values();
-        let parts = || shrink::parts(bytes.len());
-        let cut = |case: &mut Read, part| case.buffer = Buffer::of(&shrink::without(&bytes, &part));
+    fn smaller(&self) -> impl Iterator<Item = Read> {
+        let parts = || shrink::parts(self.buffer.length);
         let numbers = shrink::numbers;
-        [
-            each(self, parts(), |case, part| {
+        each(self, numbers(self.used), |case, used| case.used = used)
+            .chain(each(self, numbers(self.frame), |case, frame| {
+                case.frame = frame
+            }))
+            .chain(each(self, numbers(self.record), |case, record| {
+                case.record = record
+            }))
+            .chain(each(self, iter::once(Vec::new()), |case, bytes| {
+                case.buffer.bytes = bytes
+            }))
+            .chain(each(self, parts(), |case, part| {
                 case.used = case.used.saturating_sub(part.len() as u64);
                 cut(case, part);
-            }),
-            each(self, parts(), cut),
-            each(self, shrink::bytes(&self.buffer.bytes), |case, bytes| {
-                case.buffer.bytes = bytes
-            }),
-            each(self, numbers(self.used), |case, used| case.used = used),
-            each(self, numbers(self.frame), |case, frame| case.frame = frame),
-            each(self, numbers(self.record), |case, record| {
-                case.record = record
-            }),
-        ]
-        .concat()
+            }))
+            .chain(each(self, parts(), cut))
+            .chain(each(
+                self,
+                shrink::bytes(&self.buffer.bytes),
+                |case, bytes| case.buffer.bytes = bytes,
+            ))
     }
+
+    fn sizes(&self, answers: &[Answer]) -> Vec<u64> {
+        let [read, count, _] = answers else {
+            panic!("three entries");
+        };
+        let memory = read.number == 0 && read.out[2] == MEMORY;
+        let found = count.number == 0;
+        let sizes = [
+            (memory, read.out[4]),
+            (found, count.out[4]),
+            (found, self.frame),
+        ];
+        sizes
+            .map(|(counts, size)| if counts { size } else { 0 })
+            .to_vec()
+    }
+}
+
+fn cut(case: &mut Read, part: Range<usize>) {
+    case.buffer = Buffer::of(&shrink::without(&case.buffer.values(), &part));
 }

@@ -1,6 +1,7 @@
 //! lilivrez_run and, where a case has no allowance, lilivrez_run_default. A case's line is one of crates/run_vectors/stdin.
 
-use crate::compare::{Answer, Case, Entry, UNSTORED};
+use crate::compare::{Answer, Case, Entry, Size, UNSTORED};
+use crate::long_run;
 use crate::shrink::{self, each};
 use evaluator::generate::runs::any;
 use evaluator::machine;
@@ -36,12 +37,24 @@ impl Case for Run {
             _ => "completed without a value",
         },
     }];
+    const SIZES: &'static [Size] = &[
+        Size {
+            name: "expression bytes run",
+            least: 900,
+        },
+        Size {
+            name: "steps",
+            least: 800,
+        },
+    ];
     type Maker = ();
 
     fn any(_: &mut (), random: &mut Random, number: usize) -> Run {
-        Run {
-            case: any(random, number),
-        }
+        let case = match long_run::is_long(number) {
+            true => long_run::any(random),
+            false => any(random, number),
+        };
+        Run { case }
     }
 
     fn line(&self) -> String {
@@ -111,101 +124,114 @@ impl Case for Run {
         }]
     }
 
-    fn smaller(&self) -> Vec<Run> {
+    fn smaller(&self) -> impl Iterator<Item = Run> {
         let case = &self.case;
         let numbers = shrink::numbers;
-        let all = [
-            each(
-                case,
-                shrink::expressions(&case.expression),
-                |case, bytes| case.expression = bytes,
-            ),
-            each(case, registers(&case.registers), |case, registers| {
-                case.registers = registers
-            }),
-            each(case, spans(&case.spans[0]), |case, span| {
-                case.spans[0] = span
-            }),
-            each(case, spans(&case.spans[1]), |case, span| {
-                case.spans[1] = span
-            }),
-            each(case, variables(&case.variables), |case, variables| {
-                case.variables = variables
-            }),
-            each(case, numbers(case.used), |case, used| {
-                let less = (case.used - used) as usize;
-                case.used = used;
-                case.length = case.length.saturating_sub(less);
-            }),
-            each(case, numbers(case.used), |case, used| case.used = used),
-            each(case, numbers(case.length as u64), |case, length| {
-                case.length = length as usize
-            }),
-            each(case, numbers(case.tracepoint.into()), |case, number| {
-                case.tracepoint = number as u16
-            }),
-            each(case, allowances(case.allowance), |case, allowance| {
-                case.allowance = allowance
-            }),
-        ];
-        let all = all.concat().into_iter();
-        all.map(|case| Run { case }).collect()
+        let all = each(
+            case,
+            shrink::expressions(&case.expression),
+            |case, bytes| case.expression = bytes,
+        )
+        .chain(each(case, registers(&case.registers), |case, registers| {
+            case.registers = registers
+        }))
+        .chain(each(case, spans(&case.spans[0]), |case, span| {
+            case.spans[0] = span
+        }))
+        .chain(each(case, spans(&case.spans[1]), |case, span| {
+            case.spans[1] = span
+        }))
+        .chain(each(case, variables(&case.variables), |case, variables| {
+            case.variables = variables
+        }))
+        .chain(each(case, numbers(case.used), |case, used| {
+            let less = (case.used - used) as usize;
+            case.used = used;
+            case.length = case.length.saturating_sub(less);
+        }))
+        .chain(each(case, numbers(case.used), |case, used| {
+            case.used = used
+        }))
+        .chain(each(case, numbers(case.length as u64), |case, length| {
+            case.length = length as usize
+        }))
+        .chain(each(
+            case,
+            numbers(case.tracepoint.into()),
+            |case, number| case.tracepoint = number as u16,
+        ))
+        .chain(each(case, allowances(case.allowance), |case, allowance| {
+            case.allowance = allowance
+        }));
+        all.map(|case| Run { case })
+    }
+
+    /// Of completed runs.
+    fn sizes(&self, answers: &[Answer]) -> Vec<u64> {
+        match &answers[0] {
+            answer if answer.number == 0 => vec![self.case.expression.len() as u64, answer.out[1]],
+            _ => vec![0, 0],
+        }
     }
 }
 
 /// None, the entry without one, is the smallest.
-fn allowances(allowance: Option<u64>) -> Vec<Option<u64>> {
-    let Some(allowance) = allowance else {
-        return Vec::new();
-    };
-    let smaller = shrink::numbers(allowance).into_iter();
-    [None].into_iter().chain(smaller.map(Some)).collect()
+fn allowances(allowance: Option<u64>) -> impl Iterator<Item = Option<u64>> {
+    let smaller = allowance.into_iter().flat_map(shrink::numbers);
+    let without = allowance.map(|_| None);
+    without.into_iter().chain(smaller.map(Some))
 }
 
-fn variables(variables: &BTreeMap<usize, u64>) -> Vec<BTreeMap<usize, u64>> {
-    let listed: Vec<(usize, u64)> = variables.clone().into_iter().collect();
-    let smaller = shrink::lists(&listed, |(number, value)| {
-        let values = shrink::numbers(*value).into_iter();
-        let values = values.filter(|value| *value > 0);
-        values.map(|value| (*number, value)).collect()
+fn variables(all: &BTreeMap<usize, u64>) -> impl Iterator<Item = BTreeMap<usize, u64>> + '_ {
+    let fewer = shrink::parts(all.len()).map(|part| {
+        let kept = all.iter().enumerate();
+        let kept = kept.filter(|(place, _)| !part.contains(place));
+        kept.map(|(_, (number, value))| (*number, *value)).collect()
     });
-    let maps = smaller.into_iter().map(BTreeMap::from_iter);
-    maps.collect()
+    let lower = all.iter().flat_map(|(number, value)| {
+        let values = shrink::numbers(*value).filter(|value| *value > 0);
+        values.map(|value| {
+            let mut lower = all.clone();
+            lower.insert(*number, value);
+            lower
+        })
+    });
+    fewer.chain(lower)
 }
 
-fn registers(registers: &Registers) -> Vec<Registers> {
+type Lazy<'a, T> = Box<dyn Iterator<Item = T> + 'a>;
+
+fn registers(registers: &Registers) -> Lazy<'_, Registers> {
     match registers {
         Registers::Listed(values) => {
             let smaller = shrink::lists(values, |value| shrink::numbers(*value));
-            smaller.into_iter().map(Registers::Listed).collect()
+            Box::new(smaller.map(Registers::Listed))
         }
         Registers::Counted(count) => {
-            let fewer = shrink::numbers(*count as u64).into_iter();
+            let fewer = shrink::numbers(*count as u64);
             let counted = fewer.map(|count| Registers::Counted(count as usize));
             let listed = (*count <= 4).then(|| Registers::Listed(registers.values()));
-            listed.into_iter().chain(counted).collect()
+            Box::new(listed.into_iter().chain(counted))
         }
     }
 }
 
-fn spans((first, bytes): &(u64, Bytes)) -> Vec<(u64, Bytes)> {
-    let lower = shrink::numbers(*first).into_iter();
-    let lower = lower.map(|first| (first, bytes.clone()));
-    let fewer: Vec<Bytes> = match bytes {
-        Bytes::Listed(listed) => {
-            let smaller = shrink::bytes(listed).into_iter();
-            smaller.map(Bytes::Listed).collect()
-        }
+fn spans((first, bytes): &(u64, Bytes)) -> impl Iterator<Item = (u64, Bytes)> + '_ {
+    let lower = shrink::numbers(*first).map(|first| (first, bytes.clone()));
+    fewer(bytes).map(|bytes| (*first, bytes)).chain(lower)
+}
+
+fn fewer(bytes: &Bytes) -> Lazy<'_, Bytes> {
+    match bytes {
+        Bytes::Listed(listed) => Box::new(shrink::bytes(listed).map(Bytes::Listed)),
         Bytes::Pattern { count, zero } => {
-            let fewer = shrink::numbers(*count as u64).into_iter();
+            let fewer = shrink::numbers(*count as u64);
             let pattern = fewer.map(|count| Bytes::Pattern {
                 count: count as usize,
                 zero: zero.filter(|zero| *zero < count as usize),
             });
             let listed = (*count <= 32).then(|| Bytes::Listed(bytes.values()));
-            listed.into_iter().chain(pattern).collect()
+            Box::new(listed.into_iter().chain(pattern))
         }
-    };
-    let fewer = fewer.into_iter().map(|bytes| (*first, bytes));
-    fewer.chain(lower).collect()
+    }
 }

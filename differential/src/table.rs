@@ -1,6 +1,6 @@
 //! How often each outcome came, for a person.
 
-use crate::compare::{Entry, Found};
+use crate::compare::{Entry, Found, Size};
 use lilivrez::Refusal;
 use std::collections::{BTreeMap, BTreeSet};
 use std::fmt::Write;
@@ -45,6 +45,24 @@ fn words((number, sort): &(u32, &'static str)) -> String {
         None => sort.to_string(),
         Some(refusal) => format!("{number:>2} {refusal}"),
     }
+}
+
+/// Every size with the largest seen.
+fn sizes(all: &[Found]) -> impl Iterator<Item = (&Size, &u64)> {
+    all.iter()
+        .flat_map(|found| found.sizes.iter().zip(&found.largest))
+}
+
+pub fn largest(all: &[Found]) -> String {
+    let each = sizes(all).map(|(size, largest)| format!("{} {largest}", size.name));
+    each.collect::<Vec<_>>().join(", ")
+}
+
+/// The sizes of which no case was large enough.
+pub fn too_small(all: &[Found]) -> Vec<String> {
+    let small = sizes(all).filter(|(size, largest)| **largest < size.least);
+    let told = small.map(|(size, largest)| format!("{} {largest} of {}", size.name, size.least));
+    told.collect()
 }
 
 /// The refusals that an entry can give and did not.

@@ -57,8 +57,8 @@ impl Case for Verify {
         answer(number, out)
     }
 
-    fn smaller(&self) -> Vec<Verify> {
-        let smaller = shrink::expressions(&self.expression).into_iter();
-        smaller.map(|expression| Verify { expression }).collect()
+    fn smaller(&self) -> impl Iterator<Item = Verify> {
+        let smaller = shrink::expressions(&self.expression);
+        smaller.map(|expression| Verify { expression })
     }
 }
