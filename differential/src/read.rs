@@ -1,6 +1,6 @@
-//! lilivrez_read, lilivrez_count, lilivrez_locate and lilivrez_walk, each asked of one buffer: a record of a frame, the number of its
-//! records, where it is, and the frame that ends at the used length. A case's line is `BYTES LENGTH USED FRAME RECORD`: the buffer has LENGTH bytes,
-//! which are BYTES over and over.
+//! lilivrez_read, lilivrez_count, lilivrez_locate and lilivrez_walk, each asked of one buffer: a record of a frame, the number
+//! of its records, where it is, and the frame that ends at the used length. A case's line is `BYTES LENGTH USED FRAME RECORD`:
+//! the buffer has LENGTH bytes, which are BYTES over and over.
 
 use crate::compare::{Answer, Case, Entry, Size, UNSTORED};
 use crate::fields;
@@ -300,4 +300,39 @@ impl Case for Read {
 
 fn cut(case: &mut Read, part: Range<usize>) {
     case.buffer = Buffer::of(&shrink::without(&case.buffer.values(), &part));
+}
+
+#[cfg(test)]
+mod tests {
+    use evaluator::hex;
+    use lilivrez::{Counted, Frame, Record};
+
+    /// The safe wrappers tell all that is stored: of the newer frame, tracepoint 9, in which variable 3 is 7, and of no third.
+    #[test]
+    fn wrappers() {
+        let newer = "56 03 00 00 00 07 00 00 00 00 00 00 00 46 00 09 00 0d 00 00 00";
+        let buffer = hex::read(&format!("46 00 01 00 00 00 00 00 {newer}")).expect("this is hex");
+        let frame = Frame {
+            tracepoint: 9,
+            start: 8,
+            length: 13,
+        };
+        assert_eq!(lilivrez::locate(&buffer, 29, 0), Ok(frame));
+        let records = 1;
+        assert_eq!(
+            lilivrez::count(&buffer, 29, 0),
+            Ok(Counted { frame, records })
+        );
+        let record = Record::Variable {
+            number: 3,
+            value: 7,
+        };
+        let tracepoint = 9;
+        assert_eq!(
+            lilivrez::read(&buffer, 29, 0, 0),
+            Ok(lilivrez::Read { tracepoint, record })
+        );
+        let refused = lilivrez::locate(&buffer, 29, 2).unwrap_err();
+        assert_eq!((refused.refusal.number(), refused.offset), (24, 0));
+    }
 }
