@@ -16,10 +16,11 @@ use Rattle.listing.specs.Numbers.{decimal}
 use Rattle.listing.specs.Text.{textOf, textAt, isInstruction}
 use Rattle.listing.specs.Line.{operandsOf, readLine, lineBytes}
 use Rattle.listing.specs.Meant.{meant}
-use Rattle.listing.specs.Listing.{listing, allInstructions, bytes, readLines, listingText, readText}
+use Rattle.listing.specs.Listing.{listing, allInstructions, bytes, fault, readLines, listingText, readText}
 use Rattle.listing.specs.Whole.{outcome}
+use Rattle.listing.specs.declared.reading.Fault.{Fault}
 use Rattle.listing.specs.declared.reading.Line.the-variants.{Instruction}
-use Rattle.listing.specs.declared.whole.Whole.the-variants.{Bytes}
+use Rattle.listing.specs.declared.whole.Whole.the-variants.{Bytes, Wrong}
 use Rattle.listing.proofs.Decimals as decimals
 use Rattle.listing.proofs.Inverse as inverse
 use Rattle.listing.proofs.Opcodes.{good-name}
@@ -56,6 +57,13 @@ listing-text-read-back e low h t = inverse.text-back e low h t
 -- what `read_listing` answers and leaves where the text has no fault, and the buffer has room
 pub text-outcome : (t o b : List ℕ) → readText t ≡ bytes b → length b ≤ length o → outcome t o ≡ record { answer = Bytes (length b); left = writtenAt o 0 b }
 text-outcome = outcomes.text-right
+
+-- where it answers with a number of bytes, those in the buffer are the text's; where it names a line with a fault, the text has it there first
+pub answered-bytes : (t o : List ℕ) (k : ℕ) → outcome t o .answer ≡ Bytes k → k ≤ length o → readText t ≡ bytes (take k (outcome t o .left))
+answered-bytes = outcomes.told-right
+
+pub answered-wrong : (t o : List ℕ) (n : ℕ) (f : Fault) (c : ℕ) → outcome t o .answer ≡ Wrong n f c → readText t ≡ fault n f c
+answered-wrong = outcomes.told-wrong
 
 -- a number, as `report::text::append_number` ensures it, is appended in decimal
 pub appends-number : {b b' : List ℕ} {n n' : ℕ} (v : ℕ) → ((k : ℕ) × Fewest 10 1 v k × Appends b n (digits 10 k v) b' n') → Appends b n (decimal v) b' n'
