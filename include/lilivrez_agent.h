@@ -143,6 +143,20 @@ uint32_t lilivrez_count(const uint8_t *buffer, size_t buffer_length, size_t used
                         uint64_t frame,
                         uint64_t out[LILIVREZ_COUNT_PLACES]);
 
+/* What lilivrez_locate stores. */
+enum lilivrez_locate_place {
+    LILIVREZ_LOCATE_OFFSET = 0,     /* refused: the offset */
+    LILIVREZ_LOCATE_TRACEPOINT = 1, /* the frame's tracepoint number */
+    LILIVREZ_LOCATE_START = 2,      /* the index, in the buffer, of its first byte */
+    LILIVREZ_LOCATE_LENGTH = 3,     /* the length of its records; they are not looked at */
+    LILIVREZ_LOCATE_PLACES = 4      /* the size of the array */
+};
+
+/* Finds one frame. Returns 0, or the refusal: 15, 22 or 24. */
+uint32_t lilivrez_locate(const uint8_t *buffer, size_t buffer_length, size_t used,
+                         uint64_t frame,
+                         uint64_t out[LILIVREZ_LOCATE_PLACES]);
+
 /* What lilivrez_walk stores. */
 enum lilivrez_walk_place {
     LILIVREZ_WALK_OFFSET = 0,     /* refused: the offset */

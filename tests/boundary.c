@@ -1,7 +1,7 @@
 /*
  * The C boundary of the static libraries: zero lengths with and without NULL, slices that end or begin beside memory that
  * faults (the sanitizers do not see inside the archives), random inputs. What is checked here needs no evaluator: every place
- * of `out`, what must stay as it was, the trailer, and that the three functions that read frames agree with each other.
+ * of `out`, what must stay as it was, the trailer, and that the four functions that read frames agree with each other.
  */
 #define _DEFAULT_SOURCE
 #include <inttypes.h>
@@ -419,6 +419,24 @@ static uint32_t check_walk(const struct trace *t, size_t place, uint64_t told[LI
     return number;
 }
 
+static uint32_t check_locate(const struct trace *t, uint64_t frame, uint64_t told[LILIVREZ_LOCATE_PLACES])
+{
+    uint64_t *out = slice(outs, LILIVREZ_LOCATE_PLACES * sizeof out[0]);
+
+    memset(out, 0xa5, LILIVREZ_LOCATE_PLACES * sizeof out[0]);
+    uint32_t number = lilivrez_locate(t->buffer, t->length, t->used, frame, out);
+    memcpy(told, out, LILIVREZ_LOCATE_PLACES * sizeof out[0]);
+    if (number == LILIVREZ_NOT_REFUSED) {
+        CHECK(out[LILIVREZ_LOCATE_OFFSET] == 0);
+        return number;
+    }
+    check_offset(t, number, out[LILIVREZ_LOCATE_OFFSET]);
+    CHECK(number != LILIVREZ_REFUSED_RECORD_BROKEN && number != LILIVREZ_REFUSED_NO_SUCH_RECORD);
+    for (size_t i = 1; i < LILIVREZ_LOCATE_PLACES; i++)
+        CHECK(out[i] == 0);
+    return number;
+}
+
 static uint32_t check_count(const struct trace *t, uint64_t frame, uint64_t told[LILIVREZ_COUNT_PLACES])
 {
     uint64_t *out = slice(outs, LILIVREZ_COUNT_PLACES * sizeof out[0]);
@@ -484,12 +502,14 @@ static void check_records(const struct trace *t, uint64_t frame, const uint64_t 
     CHECK(out[LILIVREZ_READ_OFFSET] == told[LILIVREZ_COUNT_START]);
 }
 
-/* Counting and reading agree with the step that found the frame: `step` is what it stored. */
+/* Locating, counting and reading agree with the step that found the frame: `step` is what it stored. */
 static void check_frame(const struct trace *t, uint64_t frame, const uint64_t step[LILIVREZ_WALK_PLACES])
 {
-    uint64_t told[LILIVREZ_COUNT_PLACES], out[LILIVREZ_READ_PLACES];
-    uint32_t number = check_count(t, frame, told);
+    uint64_t found[LILIVREZ_LOCATE_PLACES], told[LILIVREZ_COUNT_PLACES], out[LILIVREZ_READ_PLACES];
 
+    CHECK(check_locate(t, frame, found) == LILIVREZ_NOT_REFUSED && found[LILIVREZ_LOCATE_TRACEPOINT] == step[LILIVREZ_WALK_TRACEPOINT]);
+    CHECK(found[LILIVREZ_LOCATE_START] == step[LILIVREZ_WALK_START] && found[LILIVREZ_LOCATE_LENGTH] == step[LILIVREZ_WALK_LENGTH]);
+    uint32_t number = check_count(t, frame, told);
     if (number == LILIVREZ_REFUSED_RECORD_BROKEN) {
         uint64_t offset = told[LILIVREZ_COUNT_OFFSET];
         CHECK(step[LILIVREZ_WALK_START] <= offset && offset < step[LILIVREZ_WALK_START] + step[LILIVREZ_WALK_LENGTH]);
@@ -512,7 +532,7 @@ static void check_frame(const struct trace *t, uint64_t frame, const uint64_t st
 static void check_frames(void)
 {
     struct trace t = make_trace();
-    uint64_t step[LILIVREZ_WALK_PLACES], told[LILIVREZ_COUNT_PLACES], out[LILIVREZ_READ_PLACES], frame = 0;
+    uint64_t step[LILIVREZ_WALK_PLACES], found[LILIVREZ_LOCATE_PLACES], told[LILIVREZ_COUNT_PLACES], out[LILIVREZ_READ_PLACES], frame = 0;
     size_t place = t.used;
     uint32_t number;
 
@@ -526,6 +546,7 @@ static void check_frames(void)
     if (t.is_whole)
         CHECK(number == LILIVREZ_REFUSED_NO_SUCH_FRAME && frame == t.count);
     frame += below(2) * (any() >> 1);
+    CHECK(check_locate(&t, frame, found) == number && found[LILIVREZ_LOCATE_OFFSET] == step[LILIVREZ_WALK_OFFSET]);
     CHECK(check_count(&t, frame, told) == number && told[LILIVREZ_COUNT_OFFSET] == step[LILIVREZ_WALK_OFFSET]);
     CHECK(check_read(&t, frame, any(), out) == number && out[LILIVREZ_READ_OFFSET] == step[LILIVREZ_WALK_OFFSET]);
     CHECK(t.length == 0 || memcmp(t.buffer, befores.first, t.length) == 0);
@@ -548,13 +569,15 @@ static void check_empty(void)
 
 static void check_empty_buffer(void)
 {
-    uint64_t read[LILIVREZ_READ_PLACES], counted[LILIVREZ_COUNT_PLACES], step[LILIVREZ_WALK_PLACES];
+    uint64_t read[LILIVREZ_READ_PLACES], counted[LILIVREZ_COUNT_PLACES], found[LILIVREZ_LOCATE_PLACES], step[LILIVREZ_WALK_PLACES];
 
     CHECK(lilivrez_read(NULL, 0, 0, 0, 0, read) == LILIVREZ_REFUSED_NO_SUCH_FRAME);
     CHECK(lilivrez_count(NULL, 0, 0, 0, counted) == LILIVREZ_REFUSED_NO_SUCH_FRAME);
+    CHECK(lilivrez_locate(NULL, 0, 0, 0, found) == LILIVREZ_REFUSED_NO_SUCH_FRAME);
     CHECK(lilivrez_walk(NULL, 0, 0, step) == LILIVREZ_REFUSED_NO_SUCH_FRAME && step[LILIVREZ_WALK_NEXT] == 0);
     CHECK(lilivrez_read(NULL, 0, 1, 0, 0, read) == LILIVREZ_REFUSED_BUFFER_BAD);
     CHECK(lilivrez_count(NULL, 0, 1, 0, counted) == LILIVREZ_REFUSED_BUFFER_BAD);
+    CHECK(lilivrez_locate(NULL, 0, 1, 0, found) == LILIVREZ_REFUSED_BUFFER_BAD);
     CHECK(lilivrez_walk(NULL, 0, 1, step) == LILIVREZ_REFUSED_BUFFER_BAD && step[LILIVREZ_WALK_NEXT] == 1);
 }
 

@@ -258,16 +258,23 @@ pub enum Record<'a> {
     Variable { number: u64, value: u64 },
 }
 
+/// A record, and the tracepoint number of its frame.
+#[derive(Clone, Copy, Debug, PartialEq, Eq)]
+pub struct Read<'a> {
+    pub tracepoint: u64,
+    pub record: Record<'a>,
+}
+
 /// Record number `index` of frame number `frame`, both from 0; frame 0 is the newest. The bytes are those in the buffer.
-pub fn read(buffer: &[u8], used: usize, frame: u64, index: u64) -> Result<Record<'_>, Refused> {
+pub fn read(buffer: &[u8], used: usize, frame: u64, index: u64) -> Result<Read<'_>, Refused> {
     let mut out = [0; 6];
     let number = library::read(buffer, used, frame, index, &mut out);
     if let Some(refusal) = Refusal::of(number) {
         let offset = out[0];
         return Err(Refused { refusal, offset });
     }
-    let [_, _, kind, first, second, third] = out;
-    Ok(match kind {
+    let [_, tracepoint, kind, first, second, third] = out;
+    let record = match kind {
         1 => Record::Memory {
             address: first,
             bytes: &buffer[third as usize..][..second as usize],
@@ -276,25 +283,53 @@ pub fn read(buffer: &[u8], used: usize, frame: u64, index: u64) -> Result<Record
             number: first,
             value: second,
         },
-    })
+    };
+    Ok(Read { tracepoint, record })
 }
 
-/// How many records frame number `frame` has.
-pub fn count(buffer: &[u8], used: usize, frame: u64) -> Result<u64, Refused> {
-    let mut out = [0; 5];
-    let number = library::count(buffer, used, frame, &mut out);
-    let [offset, _, _, _, records] = out;
-    match Refusal::of(number) {
-        Some(refusal) => Err(Refused { refusal, offset }),
-        None => Ok(records),
-    }
-}
-
+/// The records take `length` bytes from `start` on.
 #[derive(Clone, Copy, Debug, PartialEq, Eq)]
 pub struct Frame {
     pub tracepoint: u64,
     pub start: u64,
     pub length: u64,
+}
+
+/// A frame and the number of its records.
+#[derive(Clone, Copy, Debug, PartialEq, Eq)]
+pub struct Counted {
+    pub frame: Frame,
+    pub records: u64,
+}
+
+/// How many records frame number `frame` has.
+pub fn count(buffer: &[u8], used: usize, frame: u64) -> Result<Counted, Refused> {
+    let mut out = [0; 5];
+    let number = library::count(buffer, used, frame, &mut out);
+    let [offset, tracepoint, start, length, records] = out;
+    let frame = frame_or_refusal(number, [offset, tracepoint, start, length])?;
+    Ok(Counted { frame, records })
+}
+
+/// Where frame number `frame` is; its records are not looked at.
+pub fn locate(buffer: &[u8], used: usize, frame: u64) -> Result<Frame, Refused> {
+    let mut out = [0; 4];
+    let number = library::locate(buffer, used, frame, &mut out);
+    frame_or_refusal(number, out)
+}
+
+fn frame_or_refusal(
+    number: u32,
+    [offset, tracepoint, start, length]: [u64; 4],
+) -> Result<Frame, Refused> {
+    match Refusal::of(number) {
+        Some(refusal) => Err(Refused { refusal, offset }),
+        None => Ok(Frame {
+            tracepoint,
+            start,
+            length,
+        }),
+    }
 }
 
 /// Over the frames from the newest to the oldest: at first `place` is the used length.
@@ -311,13 +346,6 @@ impl Walker<'_> {
         let number = library::walk(self.buffer, self.place, &mut out);
         let [offset, tracepoint, start, length, next] = out;
         self.place = next as usize;
-        match Refusal::of(number) {
-            Some(refusal) => Err(Refused { refusal, offset }),
-            None => Ok(Frame {
-                tracepoint,
-                start,
-                length,
-            }),
-        }
+        frame_or_refusal(number, [offset, tracepoint, start, length])
     }
 }

@@ -75,6 +75,14 @@ mod declared {
             out: *mut [u64; 5],
         ) -> u32;
 
+        pub fn lilivrez_locate(
+            buffer: *const u8,
+            buffer_length: usize,
+            used: usize,
+            frame: u64,
+            out: *mut [u64; 4],
+        ) -> u32;
+
         pub fn lilivrez_walk(
             buffer: *const u8,
             buffer_length: usize,
@@ -161,6 +169,11 @@ pub fn read(buffer: &[u8], used: usize, frame: u64, index: u64, out: &mut [u64; 
 pub fn count(buffer: &[u8], used: usize, frame: u64, out: &mut [u64; 5]) -> u32 {
     // SAFETY: as for `read`.
     unsafe { declared::lilivrez_count(buffer.as_ptr(), buffer.len(), used, frame, out) }
+}
+
+pub fn locate(buffer: &[u8], used: usize, frame: u64, out: &mut [u64; 4]) -> u32 {
+    // SAFETY: as for `read`.
+    unsafe { declared::lilivrez_locate(buffer.as_ptr(), buffer.len(), used, frame, out) }
 }
 
 pub fn walk(buffer: &[u8], place: usize, out: &mut [u64; 5]) -> u32 {

@@ -1,6 +1,6 @@
-//! lilivrez_read, lilivrez_count and lilivrez_walk, each asked of one buffer: a record of a frame, the number of its records,
-//! and the frame that ends at the used length. A case's line is `BYTES LENGTH USED FRAME RECORD`: the buffer has LENGTH bytes,
-//! which are BYTES over and over.
+//! lilivrez_read, lilivrez_count, lilivrez_locate and lilivrez_walk, each asked of one buffer: a record of a frame, the number
+//! of its records, where it is, and the frame that ends at the used length. A case's line is `BYTES LENGTH USED FRAME RECORD`:
+//! the buffer has LENGTH bytes, which are BYTES over and over.
 
 use crate::compare::{Answer, Case, Entry, Size, UNSTORED};
 use crate::fields;
@@ -9,7 +9,7 @@ use crate::{long_read, long_run};
 use evaluator::generate::reader::{self as generate, Frames};
 use evaluator::hex;
 use evaluator::random::Random;
-use evaluator::reader::{self, Reading};
+use evaluator::reader::{self, Frame, Reading};
 use evaluator::reads::{Asked, Buffer};
 use evaluator::verify::Refused;
 use lilivrez::library;
@@ -63,6 +63,16 @@ fn record(reading: Result<Reading, Refused>) -> (u32, [u64; 6]) {
     }
 }
 
+fn place(found: Result<Frame, Refused>) -> (u32, [u64; 4]) {
+    match found {
+        Ok(frame) => {
+            let [start, length] = [frame.start, frame.length].map(|number| number as u64);
+            (0, [0, frame.tracepoint.into(), start, length])
+        }
+        Err(why) => refused(why),
+    }
+}
+
 impl Read {
     fn records(&self, buffer: &[u8]) -> (u32, [u64; 5]) {
         match reader::count(buffer, self.used, self.frame) {
@@ -77,29 +87,35 @@ impl Read {
 
     /// The step of a walker whose place is the used length; a refusal keeps it.
     fn step(&self, buffer: &[u8]) -> (u32, [u64; 5]) {
-        match reader::step(buffer, self.used) {
-            Ok(frame) => {
-                let [start, length] = [frame.start, frame.length].map(|number| number as u64);
-                (0, [0, frame.tracepoint.into(), start, length, start])
-            }
-            Err(why) => {
-                let (number, mut out) = refused(why);
-                out[4] = self.used;
-                (number, out)
-            }
-        }
+        let found = reader::step(buffer, self.used);
+        let next = match &found {
+            Ok(frame) => frame.start as u64,
+            Err(_) => self.used,
+        };
+        let (number, [offset, tracepoint, start, length]) = place(found);
+        (number, [offset, tracepoint, start, length, next])
+    }
+}
+
+/// By the length of the records, which stands in the same place for a frame located and for one walked to.
+fn with_or_without(out: &[u64]) -> &'static str {
+    match out[3] {
+        0 => "a frame without records",
+        _ => "a frame with records",
     }
 }
 
 fn answers(
     (read, record): (u32, [u64; 6]),
     (count, records): (u32, [u64; 5]),
-    (walk, frame): (u32, [u64; 5]),
+    (locate, frame): (u32, [u64; 4]),
+    (walk, step): (u32, [u64; 5]),
 ) -> Vec<Answer> {
     vec![
         Answer::numbers(read, &record),
         Answer::numbers(count, &records),
-        Answer::numbers(walk, &frame),
+        Answer::numbers(locate, &frame),
+        Answer::numbers(walk, &step),
     ]
 }
 
@@ -132,13 +148,16 @@ impl Case for Read {
             },
         },
         Entry {
+            name: "locate",
+            places: &["offset", "tracepoint", "start", "length"],
+            refusals: &[15, 22, 24],
+            sort: with_or_without,
+        },
+        Entry {
             name: "walk",
             places: &["offset", "tracepoint", "start", "length", "place"],
             refusals: &[15, 22, 24],
-            sort: |out| match out[3] {
-                0 => "a frame without records",
-                _ => "a frame with records",
-            },
+            sort: with_or_without,
         },
     ];
     const SIZES: &'static [Size] = &[
@@ -213,7 +232,9 @@ impl Case for Read {
     fn expected(&self) -> Vec<Answer> {
         let buffer = self.buffer.values();
         let reading = reader::read(&buffer, self.used, self.frame, self.record);
-        answers(record(reading), self.records(&buffer), self.step(&buffer))
+        let frame = place(reader::locate(&buffer, self.used, self.frame));
+        let step = self.step(&buffer);
+        answers(record(reading), self.records(&buffer), frame, step)
     }
 
     fn found(&self) -> Vec<Answer> {
@@ -223,9 +244,16 @@ impl Case for Read {
         let read = library::read(&buffer, used, self.frame, self.record, &mut record);
         let mut records = [UNSTORED; 5];
         let count = library::count(&buffer, used, self.frame, &mut records);
-        let mut frame = [UNSTORED; 5];
-        let walk = library::walk(&buffer, used, &mut frame);
-        answers((read, record), (count, records), (walk, frame))
+        let mut frame = [UNSTORED; 4];
+        let locate = library::locate(&buffer, used, self.frame, &mut frame);
+        let mut step = [UNSTORED; 5];
+        let walk = library::walk(&buffer, used, &mut step);
+        answers(
+            (read, record),
+            (count, records),
+            (locate, frame),
+            (walk, step),
+        )
     }
 
     fn smaller(&self) -> impl Iterator<Item = Read> {
@@ -254,8 +282,8 @@ impl Case for Read {
     }
 
     fn sizes(&self, answers: &[Answer]) -> Vec<u64> {
-        let [read, count, _] = answers else {
-            panic!("three entries");
+        let [read, count, ..] = answers else {
+            panic!("four entries");
         };
         let memory = read.number == 0 && read.out[2] == MEMORY;
         let found = count.number == 0;
@@ -272,4 +300,39 @@ impl Case for Read {
 
 fn cut(case: &mut Read, part: Range<usize>) {
     case.buffer = Buffer::of(&shrink::without(&case.buffer.values(), &part));
+}
+
+#[cfg(test)]
+mod tests {
+    use evaluator::hex;
+    use lilivrez::{Counted, Frame, Record};
+
+    /// The safe wrappers tell all that is stored: of the newer frame, tracepoint 9, in which variable 3 is 7, and of no third.
+    #[test]
+    fn wrappers() {
+        let newer = "56 03 00 00 00 07 00 00 00 00 00 00 00 46 00 09 00 0d 00 00 00";
+        let buffer = hex::read(&format!("46 00 01 00 00 00 00 00 {newer}")).expect("this is hex");
+        let frame = Frame {
+            tracepoint: 9,
+            start: 8,
+            length: 13,
+        };
+        assert_eq!(lilivrez::locate(&buffer, 29, 0), Ok(frame));
+        let records = 1;
+        assert_eq!(
+            lilivrez::count(&buffer, 29, 0),
+            Ok(Counted { frame, records })
+        );
+        let record = Record::Variable {
+            number: 3,
+            value: 7,
+        };
+        let tracepoint = 9;
+        assert_eq!(
+            lilivrez::read(&buffer, 29, 0, 0),
+            Ok(lilivrez::Read { tracepoint, record })
+        );
+        let refused = lilivrez::locate(&buffer, 29, 2).unwrap_err();
+        assert_eq!((refused.refusal.number(), refused.offset), (24, 0));
+    }
 }

@@ -4,10 +4,10 @@ use mathlib.Core.List.{List, [], _∷_}
 use mathlib.Core.Path.{_≡_, refl}
 use Prim.Native.Nat.{ℕ}
 use lib.Dec.{T, eqb}
-use Rattle.reader.specs.Located.{Located, frame, refused, walked}
+use Rattle.reader.specs.Located.{Located, frame, refused, located, walked}
 use Rattle.reader.specs.Read.{Read, memoryRead, variableRead, refusedRead, reading, Counted, counted, refusedCount, counting}
 use Rattle.reader.proofs.Promises as page
-use Rattle.lilivrez_agent.specs.Frames.{among, IsRead, IsCounted, IsFound, readNumber, countNumber, walkNumber}
+use Rattle.lilivrez_agent.specs.Frames.{among, IsRead, IsCounted, IsFound, readNumber, countNumber, placeNumber}
 
 or-right : (a b : Bool) → T b → T (a || b)
 or-right true b h = tt
@@ -57,23 +57,39 @@ module _ (l : List ℕ) (used number : ℕ) where
   pub count-0 : countNumber (counting l used number) ≡ 0 → IsCounted (counting l used number)
   count-0 = count-zero (counting l used number) refl
 
--- ---- a step of a walk
+-- ---- a frame that is looked for: any answer x whose refusals have one of these numbers
+abbrev ofPlace : List ℕ
+ofPlace = 15 ∷ 22 ∷ 24 ∷ []
+
+module _ (x : Located) (few : (r k : ℕ) → x ≡ refused r k → T (among ofPlace r)) where
+  place-in : (y : Located) → x ≡ y → T (among (0 ∷ ofPlace) (placeNumber y))
+  unfolding placeNumber
+  place-in (frame t s n) q = tt
+  place-in (refused r k) q = or-right (eqb r 0) (among ofPlace r) (few r k q)
+
+  place-number : T (among (0 ∷ ofPlace) (placeNumber x))
+  place-number = place-in x refl
+
+  place-zero : (y : Located) → x ≡ y → placeNumber y ≡ 0 → IsFound y
+  unfolding placeNumber
+  place-zero (frame t s n) q z = tt
+  place-zero (refused r k) q z = let e : r ≡ 0 = z in rw e at (few r k q)
+
+  place-0 : placeNumber x ≡ 0 → IsFound x
+  place-0 = place-zero x refl
+
+-- by its number
+module _ (l : List ℕ) (used number : ℕ) where
+  pub locate-number : T (among (0 ∷ ofPlace) (placeNumber (located l used number)))
+  locate-number = place-number (located l used number) (λ r k q. page.located-number (among ofPlace) l tt tt tt used number q)
+
+  pub locate-0 : placeNumber (located l used number) ≡ 0 → IsFound (located l used number)
+  locate-0 = place-0 (located l used number) (λ r k q. page.located-number (among ofPlace) l tt tt tt used number q)
+
+-- by a step of a walk
 module _ (l : List ℕ) (place : ℕ) where
-  abbrev ofWalk : List ℕ
-  ofWalk = 15 ∷ 22 ∷ 24 ∷ []
+  pub walk-number : T (among (0 ∷ ofPlace) (placeNumber (walked l place)))
+  walk-number = place-number (walked l place) (λ r k q. page.walked-number (among ofPlace) l tt tt tt place q)
 
-  walk-in : (x : Located) → walked l place ≡ x → T (among (0 ∷ ofWalk) (walkNumber x))
-  unfolding walkNumber
-  walk-in (frame t s n) q = tt
-  walk-in (refused r k) q = or-right (eqb r 0) (among ofWalk r) (page.walked-number (among ofWalk) l tt tt tt place q)
-
-  pub walk-number : T (among (0 ∷ ofWalk) (walkNumber (walked l place)))
-  walk-number = walk-in (walked l place) refl
-
-  walk-zero : (x : Located) → walked l place ≡ x → walkNumber x ≡ 0 → IsFound x
-  unfolding walkNumber
-  walk-zero (frame t s n) q z = tt
-  walk-zero (refused r k) q z = let e : r ≡ 0 = z in rw e at (page.walked-number (among ofWalk) l tt tt tt place q)
-
-  pub walk-0 : walkNumber (walked l place) ≡ 0 → IsFound (walked l place)
-  walk-0 = walk-zero (walked l place) refl
+  pub walk-0 : placeNumber (walked l place) ≡ 0 → IsFound (walked l place)
+  walk-0 = place-0 (walked l place) (λ r k q. page.walked-number (among ofPlace) l tt tt tt place q)

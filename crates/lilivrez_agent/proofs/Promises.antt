@@ -1,7 +1,7 @@
 -- What users of the library may cite. The contracts of src/lib.rt say what each function returns and stores, on any input whatever; the rest follows from them.
 use mathlib.Core.List.{List, [], _∷_}
 use mathlib.Core.Logic.{_≢_}
-use mathlib.Core.Path.{_≡_}
+use mathlib.Core.Path.{_≡_, sym}
 use Prim.Native.Nat.{ℕ, _+_, _≤_}
 use lib.ListN.{length, take, drop}
 use lib.Dec.{T}
@@ -10,11 +10,11 @@ use Rattle.machine.specs.Fed.{Fed}
 use Rattle.machine.specs.Run.{ended, numberOf}
 use Rattle.lilivrez_agent.specs.Lent.{spanOf, lentAt}
 use Rattle.frames.specs.Trailer.{trailerSize}
-use Rattle.reader.specs.Located.{frame, walked}
+use Rattle.reader.specs.Located.{frame, located, walked}
 use Rattle.reader.specs.Read.{memoryRead, reading, counting}
 use Rattle.reader.proofs.Promises as reader
 use Rattle.lilivrez_agent.specs.Told.{Completed}
-use Rattle.lilivrez_agent.specs.Frames.{among, IsRead, IsCounted, IsFound, readNumber, countNumber, walkNumber}
+use Rattle.lilivrez_agent.specs.Frames.{among, IsRead, IsCounted, IsFound, readNumber, countNumber, placeNumber}
 use Rattle.lilivrez_agent.proofs.Lending as lending
 use Rattle.lilivrez_agent.proofs.Numbers as numbers
 use Rattle.lilivrez_agent.proofs.Frames as frames
@@ -69,12 +69,24 @@ module _ (l : List ℕ) (used number : ℕ) where
   pub count-0 : countNumber (counting l used number) ≡ 0 → IsCounted (counting l used number)
   count-0 = frames.count-0 l used number
 
+-- ---- a frame found by its number
+module _ (l : List ℕ) (used number : ℕ) where
+  pub locate-number : T (among (0 ∷ 15 ∷ 22 ∷ 24 ∷ []) (placeNumber (located l used number)))
+  locate-number = frames.locate-number l used number
+
+  pub locate-0 : placeNumber (located l used number) ≡ 0 → IsFound (located l used number)
+  locate-0 = frames.locate-0 l used number
+
+  -- the buffer has all of it, with its trailer
+  pub locate-within : {t s n : ℕ} → located l used number ≡ frame t s n → s + n + trailerSize ≤ length l
+  locate-within q = reader.located-inside l used number (sym q) .0
+
 -- ---- a step of a walk
 module _ (l : List ℕ) (place : ℕ) where
-  pub walk-number : T (among (0 ∷ 15 ∷ 22 ∷ 24 ∷ []) (walkNumber (walked l place)))
+  pub walk-number : T (among (0 ∷ 15 ∷ 22 ∷ 24 ∷ []) (placeNumber (walked l place)))
   walk-number = frames.walk-number l place
 
-  pub walk-0 : walkNumber (walked l place) ≡ 0 → IsFound (walked l place)
+  pub walk-0 : placeNumber (walked l place) ≡ 0 → IsFound (walked l place)
   walk-0 = frames.walk-0 l place
 
   -- the frame found ends at the place given, so that a loop over the frames ends

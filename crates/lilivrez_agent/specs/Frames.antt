@@ -1,6 +1,6 @@
--- What the frame reader answers, as numbers: what `lilivrez_read`, `lilivrez_count` and `lilivrez_walk` return and store. Document 01, "Frames".
+-- What the frame reader answers, as numbers: what `lilivrez_read`, `lilivrez_count`, `lilivrez_locate` and `lilivrez_walk` return and store. Document 01, "Frames".
 use mathlib.Core.Bool.{Bool, false, _||_}
-use mathlib.Core.List.{List, [], _∷_}
+use mathlib.Core.List.{List, [], _∷_, _++_}
 use Prim.Native.Nat.{ℕ}
 use lib.Dec.{eqb}
 use Rattle.reader.specs.Located.{Located, frame, refused, placeAfter}
@@ -35,9 +35,9 @@ unfoldable pub countNumber : Counted → ℕ
 countNumber (counted t s n c) = 0
 countNumber (refusedCount r k) = r
 
-unfoldable pub walkNumber : Located → ℕ
-walkNumber (frame t s n) = 0
-walkNumber (refused r k) = r
+unfoldable pub placeNumber : Located → ℕ
+placeNumber (frame t s n) = 0
+placeNumber (refused r k) = r
 
 -- the offset of the refusal, then "the frame's tracepoint number and the record's kind" (1 memory, 2 variable), "with the address, the length and the place of
 -- its bytes in the buffer, or the variable's number and value": 0 for what is not there
@@ -51,7 +51,11 @@ unfoldable pub countValues : Counted → List ℕ
 countValues (counted t s n c) = 0 ∷ t ∷ s ∷ n ∷ c ∷ []
 countValues (refusedCount r k) = k ∷ 0 ∷ 0 ∷ 0 ∷ 0 ∷ []
 
--- the offset of the refusal, then "the next older frame's tracepoint number, start and record length", then the walker's place after its step
+-- the offset of the refusal, then the frame's "tracepoint number, start and record length"
+unfoldable pub placeValues : Located → List ℕ
+placeValues (frame t s n) = 0 ∷ t ∷ s ∷ n ∷ []
+placeValues (refused r k) = k ∷ 0 ∷ 0 ∷ 0 ∷ []
+
+-- the same of a step, then the walker's place after it
 unfoldable pub walkValues : ℕ → Located → List ℕ
-walkValues place (frame t s n) = 0 ∷ t ∷ s ∷ n ∷ placeAfter place (frame t s n) ∷ []
-walkValues place (refused r k) = k ∷ 0 ∷ 0 ∷ 0 ∷ placeAfter place (refused r k) ∷ []
+walkValues place x = placeValues x ++ (placeAfter place x ∷ [])

@@ -6,11 +6,11 @@ ghost use Rattle.machine.specs.Machine.{Ended};
 ghost use Rattle.machine.specs.Run.{ended, defaultAllowance};
 ghost use Rattle.runner.specs.Returned.{returned, returnedBy};
 ghost use Rattle.memory.specs.Fetch.{fetchRefusal};
-ghost use Rattle.reader.specs.Located.{walked};
+ghost use Rattle.reader.specs.Located.{located, walked};
 ghost use Rattle.reader.specs.Read.{reading, counting};
 ghost use Rattle.lilivrez_agent.specs.Lent.{lentAt, stored};
 ghost use Rattle.lilivrez_agent.specs.Told.{Told, ToldRun};
-ghost use Rattle.lilivrez_agent.specs.Frames.{readNumber, readValues, countNumber, countValues, walkNumber, walkValues};
+ghost use Rattle.lilivrez_agent.specs.Frames.{readNumber, readValues, countNumber, countValues, placeNumber, placeValues, walkValues};
 use reader::Count;
 use reader::Place;
 use reader::Reading;
@@ -196,12 +196,32 @@ pub extern "C" fn lilivrez_count(buffer: &[u8], used: usize, frame: u64, out: &m
     }
 }
 
+// Finds frame number `frame` and looks at none of its records. Returns the number of the refusal, or 0. Stores the offset of the refusal, the tracepoint number,
+// the start of the frame and the length of its records.
+#[no_mangle]
+pub extern "C" fn lilivrez_locate(buffer: &[u8], used: usize, frame: u64, out: &mut [u64; 4]) -> u32
+    ensures number { λ r. ⌜ r ≡ placeNumber (located (now (buffer .entry)) used frame) ⌝ }
+    ensures values { λ _. ⌜ now (out .exit) ≡ placeValues (located (now (buffer .entry)) used frame) ⌝ }
+{
+    match reader::locate(buffer, used, frame) {
+        Place::NoFrame(number, offset) => {
+            *out = [offset as u64, 0, 0, 0];
+            number as u32
+        }
+        Place::Frame(point, start, length) => {
+            let tracepoint = point as u64;
+            *out = [0, tracepoint, start as u64, length as u64];
+            0
+        }
+    }
+}
+
 // One step of the walker: the frame that ends at `place`. Returns the number of the refusal, or 0. Stores the offset of the refusal, the tracepoint number, the
 // start of the frame, the length of its records and the place after the step. That place is a variable of the caller: the walker's struct holds a reference,
 // and only numbers and slices cross the boundary.
 #[no_mangle]
 pub extern "C" fn lilivrez_walk(buffer: &[u8], place: usize, out: &mut [u64; 5]) -> u32
-    ensures number { λ r. ⌜ r ≡ walkNumber (walked (now (buffer .entry)) place) ⌝ }
+    ensures number { λ r. ⌜ r ≡ placeNumber (walked (now (buffer .entry)) place) ⌝ }
     ensures values { λ _. ⌜ now (out .exit) ≡ walkValues place (walked (now (buffer .entry)) place) ⌝ }
 {
     match reader::walk(buffer, place) {

@@ -42,6 +42,9 @@ module _ (p : ℕ → Bool) (l : List ℕ) (h15 : T (p 15)) (h22 : T (p 22)) (h2
   unfolding located
   located-in used number = either (unfit l used) _ _ h15 (back-in number used)
 
+  pub located-number : (used number : ℕ) {r k : ℕ} → located l used number ≡ refused r k → T (p r)
+  located-number used number q = rw q at (located-in used number)
+
   walked-in : (place : ℕ) → OfLocated (walked l place)
   unfolding walked
   walked-in place = either (unfit l place) _ _ h15 (before-in place)

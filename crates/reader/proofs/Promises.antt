@@ -29,8 +29,11 @@ read-inside = inside.read-inside
 pub walked-back : (l : List ℕ) (place : ℕ) {t s n : ℕ} → walked l place ≡ frame t s n → s + n + trailerSize ≡ place
 walked-back = inside.walked-back
 
--- ---- the numbers of refusals: what holds of 15, 22 and 24 holds of each of a walk's; with 23, of a count's; with 25, of a reading's
+-- ---- the numbers of refusals: what holds of 15, 22 and 24 holds of each of a search's and of a walk's; with 23, of a count's; with 25, of a reading's
 module _ (p : ℕ → Bool) (l : List ℕ) (h15 : T (p 15)) (h22 : T (p 22)) (h24 : T (p 24)) where
+  pub located-number : (used number : ℕ) {r k : ℕ} → located l used number ≡ refused r k → T (p r)
+  located-number = numbers.located-number p l h15 h22 h24
+
   pub walked-number : (place : ℕ) {r k : ℕ} → walked l place ≡ refused r k → T (p r)
   walked-number = numbers.walked-number p l h15 h22 h24
 

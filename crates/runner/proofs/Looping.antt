@@ -47,7 +47,7 @@ follow-by m go st (leaves cells rs) true q = rw (q, onward) refl
 follow-by m go st (leaves cells rs) false q = rw (q, onward) refl
 follow-by m go st (faults n) b q = refl
 
--- what the code holds: variables v, buffer b, cells a, height h, offset k, the end p of what is written, and n steps
+-- what the code holds: its own variables v, buffer b, cells a, height h, offset k, the end p of what is written, and n steps
 pub record Loop (m : Fed) (b₀ : List ℕ) (u : ℕ) (g : List ℕ) (max : ℕ) (v b : List ℕ) (a : List ℕ) (h k p n : ℕ) : Type 0 where
   pub records : List Record
   pub walk : OnWalk (m .expression) k (held a h) n
@@ -198,15 +198,15 @@ module _ {m : Fed} {c₀ g₀ l₀ : ℕ} (acc : Accepted (m .expression) c₀ g
   ends-by (refuses x) q d o t hx hz = absurd (omega (arith, d .stop, refuses-high acc l (done m k (held a h) v (length b - p)) refl (eqb (kindAt (m .expression) k) kind-end) refl q))
 
   halts-by : (e : Effect) → effect m k (held a h) v (length b - p) ≡ e → Did k (held a h) v b p e r c v′ b′ → r .stop ≢ 0 → r .stop ≢ 1 → (t : ℕ)
-      → Ran t g b₀ u (moves m (length b₀ - u) max (begin g)) (Refused (r .stop) (r .at) n) g b′
+      → {w : List ℕ} → w ≡ g → Ran t g b₀ u (moves m (length b₀ - u) max (begin g)) (Refused (r .stop) (r .at) n) w b′
   unfolding effect encodeAll leftBytes returned usedOf variablesOf bufferOf
-  halts-by (refuses x) q d h0 h1 t = rw (followed l lt q, d .at) (record {
+  halts-by (refuses x) q d h0 h1 t kept = rw (followed l lt q, d .at) (record {
     answer = ap (λ (y : ℕ). refusedWith y k n) (d .stop);
-    variables = refl;
+    variables = kept;
     buffer = d .buffer ∙ written-nothing b p ∙ l .laid;
   })
-  halts-by (goes i t′ w rs) q d h0 h1 t = absurd (h0 (d .stop))
-  halts-by completes q d h0 h1 t = absurd (h1 (d .stop))
+  halts-by (goes i t′ w rs) q d h0 h1 t kept = absurd (h0 (d .stop))
+  halts-by completes q d h0 h1 t kept = absurd (h1 (d .stop))
 
   module _ (d : Did k (held a h) v b p (effect m k (held a h) v (length b - p)) r c v′ b′) where
     pub turn : r .stop ≡ 0 → Loop m b₀ u g max v′ b′ c (r .height) (r .at) (r .put) (n + 1)
@@ -219,14 +219,15 @@ module _ {m : Fed} {c₀ g₀ l₀ : ℕ} (acc : Accepted (m .expression) c₀ g
         → Ran t g b₀ u (moves m (length b₀ - u) max (begin g)) (Completed z (n + 1) (r .put + trailerSize)) v′ x
     ends = ends-by (effect m k (held a h) v (length b - p)) refl d
 
-    pub halts : r .stop ≢ 0 → r .stop ≢ 1 → (t : ℕ) → Ran t g b₀ u (moves m (length b₀ - u) max (begin g)) (Refused (r .stop) (r .at) n) g b′
+    -- where the lent variables w are those given
+    pub halts : r .stop ≢ 0 → r .stop ≢ 1 → (t : ℕ) → {w : List ℕ} → w ≡ g → Ran t g b₀ u (moves m (length b₀ - u) max (begin g)) (Refused (r .stop) (r .at) n) w b′
     halts = halts-by (effect m k (held a h) v (length b - p)) refl d
 
 -- ---- the allowance is spent
 module _ {m : Fed} {b₀ : List ℕ} {u : ℕ} {g : List ℕ} {max : ℕ} {v b : List ℕ} {a : List ℕ} {h k p n : ℕ} (l : Loop m b₀ u g max v b a h k p n) where
-  pub spent : max ≤ n → (t : ℕ) → Ran t g b₀ u (moves m (length b₀ - u) max (begin g)) (Refused 16 k n) g b
+  pub spent : max ≤ n → (t : ℕ) → {w : List ℕ} → w ≡ g → Ran t g b₀ u (moves m (length b₀ - u) max (begin g)) (Refused 16 k n) w b
   unfolding moves leftBytes returned usedOf variablesOf bufferOf
-  spent h t =
+  spent h t kept =
       let e : max - n ≡ 0 = omega arith in
       let o = rw e at (l .same) in
-      rw o (record { answer = refl; variables = refl; buffer = l .laid })
+      rw o (record { answer = refl; variables = kept; buffer = l .laid })

@@ -54,8 +54,8 @@ fn close_frame(buffer: &mut [u8], put: usize, tracepoint: u16, size: usize)
     frames::trailer::append_trailer(buffer, put, tracepoint, size as u32);
 }
 
-// A run of an accepted expression on inputs that 12 to 15 allow. It works on the lent variables: those given are kept, and every refusal puts
-// them back. What is left of the allowance is counted down, so that one machine instruction both counts and tests.
+// A run of an accepted expression on inputs that 12 to 15 allow. It works on a copy of the variables, which is written back on completion alone.
+// What is left of the allowance is counted down, so that one machine instruction both counts and tests.
 // Where a step stops, its answer has the offset and the end of what is written as they were: so they are taken before `stop` is tested.
 fn run_accepted<'a>(
     rows: &[[u8; 4]; 53],
@@ -74,7 +74,7 @@ fn run_accepted<'a>(
     requires { ⌜ (now rows ≡ table) × IsAccepted (now code) × (spansRefusal «image_first» (now image) «work_first» (now work) ≡ 0) × (used ≤ length (now buffer)) × (length (now buffer) ≤ 65536) ⌝ }
     ensures { λ r. ⌜ Ran tracepoint (now (variables .entry)) (now (buffer .entry)) used (moves (fed (now (code .entry)) (now (registers .entry)) «image_first» (now (image .entry)) «work_first» (now (work .entry))) (length (now (buffer .entry)) - used) allowance (begin (now (variables .entry)))) r (now (variables .exit)) (now (buffer .exit)) ⌝ }
 {
-    let given = *variables;
+    let mut own = *variables;
     let mut stack = Stack::empty();
     let mut height = stack.height;
     let mut at = 0;
@@ -90,7 +90,7 @@ fn run_accepted<'a>(
             work_first,
             work,
             &mut stack.cells,
-            variables,
+            &mut own,
             buffer,
             at,
             height,
@@ -105,15 +105,16 @@ fn run_accepted<'a>(
             if next.stop == 1 {
                 let value = value_of(&stack.cells, height);
                 close_frame(buffer, put, tracepoint, put - used);
-                return Outcome::Completed(value, counted, put + frames::trailer::TRAILER_SIZE);
+                let length = put + frames::trailer::TRAILER_SIZE;
+                *variables = own;
+                return Outcome::Completed(value, counted, length);
             }
-            *variables = given;
             return Outcome::Refused(next.stop, at, steps);
         }
         left -= 1;
     }
-    *variables = given;
-    Outcome::Refused(16, at, allowance - left)
+    let steps = allowance - left;
+    Outcome::Refused(16, at, steps)
 }
 
 // 12 to 15, tried in that order; 0 where none is met.

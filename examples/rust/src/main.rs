@@ -71,7 +71,8 @@ impl Unit<'_> {
     }
 
     fn print_record(&self, frame: u64, index: u64) {
-        match lilivrez::read(self.buffer.bytes, self.buffer.used, frame, index) {
+        let read = lilivrez::read(self.buffer.bytes, self.buffer.used, frame, index);
+        match read.map(|read| read.record) {
             Ok(Record::Memory { address, bytes }) => {
                 println!("  memory at {address}:{}", hex(bytes))
             }
@@ -82,9 +83,9 @@ impl Unit<'_> {
 
     fn print_frame(&self, frame: u64) {
         match lilivrez::count(self.buffer.bytes, self.buffer.used, frame) {
-            Ok(records) => {
-                println!("  records {records}");
-                for i in 0..records {
+            Ok(counted) => {
+                println!("  records {}", counted.records);
+                for i in 0..counted.records {
                     self.print_record(frame, i);
                 }
             }

@@ -1,7 +1,7 @@
 use mathlib.Core.Path.{sym, ap, _∙_}
 use borrow.Author.Needs.{needs}
 use Rattle.reader.specs.Answers.{locatedOf}
-use Rattle.lilivrez_agent.specs.Frames.{walkNumber, walkValues}
+use Rattle.lilivrez_agent.specs.Frames.{placeNumber, placeValues, walkValues}
 use Rattle.lilivrez_agent.proofs.lilivrez_walk.Statement.{statement}
 use Rattle.lilivrez_agent.proofs.lilivrez_walk.Tie as tie
 
@@ -21,16 +21,16 @@ cast-tracepoint : tie.Need-cast-tracepoint
 cast-tracepoint c = search needs
 
 returns : tie.Need-returns
-unfolding walkNumber walkValues
+unfolding placeNumber placeValues walkValues
 returns c =
     let q = sym (ap locatedOf (c .before .before .number .given .1)) ∙ c .before .before .before .before .walk .ensures in
-    (ap walkNumber q, ap (walkValues (c .before .before .before .before .before .before .args .place)) q)
+    (ap placeNumber q, ap (walkValues (c .before .before .before .before .before .before .args .place)) q)
 
 returns-2 : tie.Need-returns-2
-unfolding walkNumber walkValues
+unfolding placeNumber placeValues walkValues
 returns-2 c =
     let q = sym (ap locatedOf (c .before .before .point .given .1)) ∙ c .before .before .before .before .walk .ensures in
-    (ap walkNumber q, ap (walkValues (c .before .before .before .before .before .before .args .place)) q)
+    (ap placeNumber q, ap (walkValues (c .before .before .before .before .before .before .args .place)) q)
 
 pub lilivrez-walk-spec : {M : Type 1} → statement M
 lilivrez-walk-spec =

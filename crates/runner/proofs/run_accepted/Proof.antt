@@ -1,5 +1,5 @@
 use borrow.Author.Needs.{needs}
-use mathlib.Core.Path.{ap, _∙_}
+use mathlib.Core.Path.{_≡_, refl, ap, _∙_}
 use Prim.Native.Nat.{_-_, _≤_}
 use native.Mathlib.Omega.{arith}
 use lib.ListN.{length}
@@ -9,19 +9,19 @@ use Rattle.runner.proofs.run_accepted.Statement.{statement}
 use Rattle.runner.proofs.run_accepted.Tie as tie
 
 abbrev Inv-loop : tie.InvT-loop
-Inv-loop rows code registers image-first image work-first work variables₀ buffer₀ used tracepoint allowance given stack₀ height₀ at₀ put₀ left₀ variables buffer stack height at put left = (left ≤ allowance) × Loop (fed code registers image-first image work-first work) buffer₀ used variables₀ allowance variables buffer (stack .cells) height at put (allowance - left)
+Inv-loop rows code registers image-first image work-first work variables₀ buffer₀ used tracepoint allowance own₀ stack₀ height₀ at₀ put₀ left₀ variables buffer own stack height at put left = (left ≤ allowance) × (variables ≡ variables₀) × Loop (fed code registers image-first image work-first work) buffer₀ used variables₀ allowance own buffer (stack .cells) height at put (allowance - left)
 
 abbrev μ-loop : tie.MeasureT-loop
-μ-loop rows code registers image-first image work-first work variables₀ buffer₀ used tracepoint allowance given stack₀ height₀ at₀ put₀ left₀ variables buffer stack height at put left = left
+μ-loop rows code registers image-first image work-first work variables₀ buffer₀ used tracepoint allowance own₀ stack₀ height₀ at₀ put₀ left₀ variables buffer own stack height at put left = left
 
 empty-requires : tie.Need-empty-requires Inv-loop μ-loop
 empty-requires c κs = search needs
 
 loop-holds : tie.Need-loop-holds Inv-loop μ-loop
-loop-holds c = let s = c .before .before .before .before .before .before .before in (omega arith, loop-start (s .pre .1 .accepts) _ _ _ _ (s .pre .3) (c .empty .ensures .0) (ap length (c .empty .ensures .1)))
+loop-holds c = let s = c .before .before .before .before .before .before .before in (omega arith, refl, loop-start (s .pre .1 .accepts) _ _ _ _ (s .pre .3) (c .empty .ensures .0) (ap length (c .empty .ensures .1)))
 
 step-requires : tie.Need-step-requires Inv-loop μ-loop
-step-requires c κs = let q = c .before .before .before .before in let s = q .before .before .before .before .before .before .before .before in (place (s .pre .1 .accepts) (q .loop .inv .1) (s .pre .0), (omega (arith, q .loop .inv .1 .room, as-long (q .loop .inv .1)), s .pre .2))
+step-requires c κs = let q = c .before .before .before .before in let s = q .before .before .before .before .before .before .before .before in (place (s .pre .1 .accepts) (q .loop .inv .2) (s .pre .0), (omega (arith, q .loop .inv .2 .room, as-long (q .loop .inv .2)), s .pre .2))
 
 sub-steps : tie.Need-sub-steps Inv-loop μ-loop
 sub-steps c = omega (arith, c .before .before .before .before .before .before .before .before .before .loop .inv .0)
@@ -32,28 +32,28 @@ add-counted c =
     omega (arith, t .before .before .before .before .before .before .before .before .before .before .before .before .before .fits .allowance, t .before .before .before .before .loop-test .taken, t .before .before .before .before .before .loop .inv .0)
 
 value-of-requires : tie.Need-value-of-requires Inv-loop μ-loop
-value-of-requires c κs = let t = c .before .before .before .before .before .before .before .before in let s = t .before .before .before .before .before .before .before .before .before .before .before .before .before in room-left (s .pre .1 .accepts) (t .before .before .before .before .before .loop .inv .1) (still-left (t .before .before .before .before .loop-test .taken) (t .before .before .before .before .before .loop .inv .0)) (t .step .ensures) (c .before .before .if2 .taken) .3
+value-of-requires c κs = let t = c .before .before .before .before .before .before .before .before in let s = t .before .before .before .before .before .before .before .before .before .before .before .before .before in room-left (s .pre .1 .accepts) (t .before .before .before .before .before .loop .inv .2) (still-left (t .before .before .before .before .loop-test .taken) (t .before .before .before .before .before .loop .inv .0)) (t .step .ensures) (c .before .before .if2 .taken) .3
 
 sub-close-frame : tie.Need-sub-close-frame Inv-loop μ-loop
-sub-close-frame c = let t = c .before .before .before .before .before .before .before .before .before .before in let s = t .before .before .before .before .before .before .before .before .before .before .before .before .before in room-left (s .pre .1 .accepts) (t .before .before .before .before .before .loop .inv .1) (still-left (t .before .before .before .before .loop-test .taken) (t .before .before .before .before .before .loop .inv .0)) (t .step .ensures) (c .before .before .before .before .if2 .taken) .0
+sub-close-frame c = let t = c .before .before .before .before .before .before .before .before .before .before in let s = t .before .before .before .before .before .before .before .before .before .before .before .before .before in room-left (s .pre .1 .accepts) (t .before .before .before .before .before .loop .inv .2) (still-left (t .before .before .before .before .loop-test .taken) (t .before .before .before .before .before .loop .inv .0)) (t .step .ensures) (c .before .before .before .before .if2 .taken) .0
 
 close-frame-requires : tie.Need-close-frame-requires Inv-loop μ-loop
-close-frame-requires c κs = let t = c .before .before .before .before .before .before .before .before .before .before in let s = t .before .before .before .before .before .before .before .before .before .before .before .before .before in let e = room-left (s .pre .1 .accepts) (t .before .before .before .before .before .loop .inv .1) (still-left (t .before .before .before .before .loop-test .taken) (t .before .before .before .before .before .loop .inv .0)) (t .step .ensures) (c .before .before .before .before .if2 .taken) in (e .1, omega (arith, e, s .pre .4))
+close-frame-requires c κs = let t = c .before .before .before .before .before .before .before .before .before .before in let s = t .before .before .before .before .before .before .before .before .before .before .before .before .before in let e = room-left (s .pre .1 .accepts) (t .before .before .before .before .before .loop .inv .2) (still-left (t .before .before .before .before .loop-test .taken) (t .before .before .before .before .before .loop .inv .0)) (t .step .ensures) (c .before .before .before .before .if2 .taken) in (e .1, omega (arith, e, s .pre .4))
 
-add-t34 : tie.Need-add-t34 Inv-loop μ-loop
-add-t34 c = let t = c .before .before .before .before .before .before .before .before .before .before .before .before .before in let s = t .before .before .before .before .before .before .before .before .before .before .before .before .before in let e = room-left (s .pre .1 .accepts) (t .before .before .before .before .before .loop .inv .1) (still-left (t .before .before .before .before .loop-test .taken) (t .before .before .before .before .before .loop .inv .0)) (t .step .ensures) (c .before .before .before .before .before .before .before .if2 .taken) in omega (arith, e, s .pre .4)
+add-length : tie.Need-add-length Inv-loop μ-loop
+add-length c = let t = c .before .before .before .before .before .before .before .before .before .before .before .before .before in let s = t .before .before .before .before .before .before .before .before .before .before .before .before .before in let e = room-left (s .pre .1 .accepts) (t .before .before .before .before .before .loop .inv .2) (still-left (t .before .before .before .before .loop-test .taken) (t .before .before .before .before .before .loop .inv .0)) (t .step .ensures) (c .before .before .before .before .before .before .before .if2 .taken) in omega (arith, e, s .pre .4)
 
 same-length : tie.Need-same-length Inv-loop μ-loop
-same-length c = let t = c .before .before .before .before .before .before .before .before .before .before .before .before .before in let s = t .before .before .before .before .before .before .before .before .before .before .before .before .before in c .before .before .close-frame .kept .0 ∙ room-left (s .pre .1 .accepts) (t .before .before .before .before .before .loop .inv .1) (still-left (t .before .before .before .before .loop-test .taken) (t .before .before .before .before .before .loop .inv .0)) (t .step .ensures) (c .before .before .before .before .before .before .before .if2 .taken) .2
+same-length c = let t = c .before .before .before .before .before .before .before .before .before .before .before .before .before in let s = t .before .before .before .before .before .before .before .before .before .before .before .before .before in c .before .before .close-frame .kept .0 ∙ room-left (s .pre .1 .accepts) (t .before .before .before .before .before .loop .inv .2) (still-left (t .before .before .before .before .loop-test .taken) (t .before .before .before .before .before .loop .inv .0)) (t .step .ensures) (c .before .before .before .before .before .before .before .if2 .taken) .2
 
 returns : tie.Need-returns Inv-loop μ-loop
-returns c = let t = c .before .before .before .before .before .before .before .before .before .before .before .before .before in let s = t .before .before .before .before .before .before .before .before .before .before .before .before .before in ends (s .pre .1 .accepts) (t .before .before .before .before .before .loop .inv .1) (still-left (t .before .before .before .before .loop-test .taken) (t .before .before .before .before .before .loop .inv .0)) (t .step .ensures) (c .before .before .before .before .before .before .before .if2 .taken) (s .args .tracepoint) (c .before .before .close-frame .ensures) (c .before .before .before .before .value-of .ensures)
+returns c = let t = c .before .before .before .before .before .before .before .before .before .before .before .before .before in let s = t .before .before .before .before .before .before .before .before .before .before .before .before .before in ends (s .pre .1 .accepts) (t .before .before .before .before .before .loop .inv .2) (still-left (t .before .before .before .before .loop-test .taken) (t .before .before .before .before .before .loop .inv .0)) (t .step .ensures) (c .before .before .before .before .before .before .before .if2 .taken) (s .args .tracepoint) (c .before .before .close-frame .ensures) (c .before .before .before .before .value-of .ensures)
 
 same-length-2 : tie.Need-same-length-2 Inv-loop μ-loop
-same-length-2 c = let t = c .before .before .before .before .before .before in t .step .kept .1 .1 .1 .1 .1 .1 .1 .1 .1 .0 ∙ as-long (t .before .before .before .before .before .loop .inv .1)
+same-length-2 c = let t = c .before .before .before .before .before .before in t .step .kept .1 .1 .1 .1 .1 .1 .1 .1 .1 .0 ∙ as-long (t .before .before .before .before .before .loop .inv .2)
 
 returns-2 : tie.Need-returns-2 Inv-loop μ-loop
-returns-2 c = let t = c .before .before .before .before .before .before in let s = t .before .before .before .before .before .before .before .before .before .before .before .before .before in halts (s .pre .1 .accepts) (t .before .before .before .before .before .loop .inv .1) (still-left (t .before .before .before .before .loop-test .taken) (t .before .before .before .before .before .loop .inv .0)) (t .step .ensures) (c .before .before .if1 .taken) (c .if2 .left) (s .args .tracepoint)
+returns-2 c = let t = c .before .before .before .before .before .before in let s = t .before .before .before .before .before .before .before .before .before .before .before .before .before in halts (s .pre .1 .accepts) (t .before .before .before .before .before .loop .inv .2) (still-left (t .before .before .before .before .loop-test .taken) (t .before .before .before .before .before .loop .inv .0)) (t .step .ensures) (c .before .before .if1 .taken) (c .if2 .left) (s .args .tracepoint) (t .before .before .before .before .before .loop .inv .1)
 
 sub-left : tie.Need-sub-left Inv-loop μ-loop
 sub-left c = search needs
@@ -65,16 +65,16 @@ loop-again : tie.Need-loop-again Inv-loop μ-loop
 loop-again c =
     let t = c .before .before .before .before in let s = t .before .before .before .before .before .before .before .before .before .before .before .before .before in
     let some = t .before .before .before .before .loop-test .taken in let i = t .before .before .before .before .before .loop .inv in
-    (omega (arith, i .0), rw (← (one-less some (i .0))) (turn (s .pre .1 .accepts) (i .1) (still-left some (i .0)) (t .step .ensures) (c .if1 .left)))
+    (omega (arith, i .0), i .1, rw (← (one-less some (i .0))) (turn (s .pre .1 .accepts) (i .2) (still-left some (i .0)) (t .step .ensures) (c .if1 .left)))
 
-sub-t35 : tie.Need-sub-t35 Inv-loop μ-loop
-sub-t35 c = omega (arith, c .before .loop .inv .0)
+sub-steps-2 : tie.Need-sub-steps-2 Inv-loop μ-loop
+sub-steps-2 c = omega (arith, c .before .loop .inv .0)
 
 same-length-3 : tie.Need-same-length-3 Inv-loop μ-loop
-same-length-3 c = as-long (c .before .loop .inv .1)
+same-length-3 c = as-long (c .before .loop .inv .2)
 
 returns-3 : tie.Need-returns-3 Inv-loop μ-loop
-returns-3 c = let s = c .before .before .before .before .before .before .before .before .before in spent (c .before .loop .inv .1) (omega arith) (s .args .tracepoint)
+returns-3 c = let s = c .before .before .before .before .before .before .before .before .before in spent (c .before .loop .inv .2) (omega arith) (s .args .tracepoint) (c .before .loop .inv .1)
 
 pub run-accepted-spec : {M : Type 1} → statement M
 run-accepted-spec =
@@ -90,7 +90,7 @@ run-accepted-spec =
     value-of-requires
     sub-close-frame
     close-frame-requires
-    add-t34
+    add-length
     same-length
     returns
     same-length-2
@@ -98,6 +98,6 @@ run-accepted-spec =
     sub-left
     loop-less
     loop-again
-    sub-t35
+    sub-steps-2
     same-length-3
     returns-3)
