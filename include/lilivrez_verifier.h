@@ -14,7 +14,7 @@
  *    verified and then run as it stands: if a byte of it changes in between, the run may read and write anywhere. Memory that is live
  *    is held still, or copied, before it is lent: else what is proved of the bytes recorded is not true of them.
  *  - It allocates nothing, keeps no pointer and has no state: it may be called from several threads at once.
- *  - It needs memcpy and memset, which the compiler calls by itself, and no other function. It uses less than 8 KB of stack.
+ *  - It needs memcpy, memmove and memset, which the compiler calls by itself, and no other function. It uses less than 8 KB of stack.
  *  - The archives are machine code for x86-64 with the System V calling convention (Linux). They use SSE registers.
  */
 #ifndef LILIVREZ_VERIFIER_H

@@ -1,6 +1,4 @@
 // The lines of a scenario, one after the other, up to the first that is wrong.
-ghost use mathlib.Core.Path.{_≡_};
-ghost use lib.ListN.{length};
 use crate::outcome::print_buffer;
 use crate::outcome::print_changes;
 use crate::outcome::print_outcome;
@@ -14,6 +12,7 @@ use crate::setting::with_used;
 use command_frames::show::print_frame;
 use files::Loaded;
 use files::load;
+use files::mebibyte_buffer;
 use files::save;
 use output::print_error;
 use output::print_error_at;
@@ -435,20 +434,13 @@ fn take_line(
     )
 }
 
-// Room for the bytes of a span.
-fn span_buffer() -> [u8; 1048576]
-    ensures { λ r. ⌜ 1048576 ≡ length r ⌝ }
-{
-    [0; 1048576]
-}
-
 // The number of a line also bounds the loop, for its proof.
 fn run_lines(fd: i32, name: &[u8]) {
     let mut input = io::large_buffer();
     let mut text = io::large_buffer();
     let mut registers = [0u64; 257];
-    let mut image = span_buffer();
-    let mut memory = span_buffer();
+    let mut image = mebibyte_buffer();
+    let mut memory = mebibyte_buffer();
     let mut variables = [0u64; 64];
     let mut buffer = io::large_buffer();
     let mut setting = start();

@@ -1,4 +1,4 @@
-// Files that a command names: read whole, and written.
+// Files that a command names, and standard input: read whole, and written.
 ghost use mathlib.Core.Path.{_≡_};
 ghost use Prim.Native.Nat.{ℕ, _≤_};
 ghost use lib.ListN.{length};
@@ -17,7 +17,15 @@ fn goes_on(fd: i32) -> bool {
     0 < libc::read(fd, &mut more)
 }
 
-fn read_all(fd: i32, bytes: &mut [u8]) -> Loaded
+// 1,048,576 zeros, for a text or the bytes of a span.
+pub fn mebibyte_buffer() -> [u8; 1048576]
+    ensures { λ r. ⌜ 1048576 ≡ length r ⌝ }
+{
+    [0; 1048576]
+}
+
+// Puts what is left of an open file at the start of `bytes`.
+pub fn load_rest(fd: i32, bytes: &mut [u8]) -> Loaded
     ensures { λ r. ⌜ ((n : ℕ) → r ≡ Loaded.Bytes n → n ≤ length (now (bytes .exit))) ⌝ }
 {
     let mut n = 0;
@@ -46,7 +54,7 @@ pub fn load(name: &[u8], bytes: &mut [u8]) -> Loaded
     if fd < 0 {
         return Loaded::NotOpened;
     }
-    let loaded = read_all(fd, bytes);
+    let loaded = load_rest(fd, bytes);
     libc::close(fd);
     loaded
 }

@@ -1,4 +1,4 @@
--- "Then the chosen frame must divide into records exactly: else 23 at the first bad record" (document 01, "Frames").
+-- "Then the chosen frame must divide into records exactly, memory lengths 1 or more, variables below 64: else 23 at the first bad record" (document 01, "Frames").
 use mathlib.Core.List.{List, [], _∷_}
 use Prim.Native.Nat.{ℕ, zero, suc, _+_}
 use lib.ListN.{length, drop}

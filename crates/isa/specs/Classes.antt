@@ -142,7 +142,7 @@ opcodes =
     ∷ (0x01 ∷ 0x1b ∷ 0x1c ∷ 0x1d ∷ 0x1e ∷ 0x1f ∷ 0x34 ∷ [], unsupported)
     ∷ []
 
--- the class of the first line that has the opcode; "every other byte is unknown"
+-- the class of the first line that has the opcode; "Every other byte, 00 and 31 included, is unknown."
 abbrev pub among : ℕ → List (List ℕ × Class) → Class
 among op [] = unknown
 among op (l ∷ ls) = cond (member op (l .0)) (l .1) (among op ls)

@@ -1,15 +1,14 @@
 -- The text of an instruction is read back as the instruction, and a listing as the expression. Assumes nothing.
 use Prim.Native.Nat.{ℕ, zero, suc, _+_, _-_, _^_, _≤_, _<_}
 use native.Mathlib.Nat.{pow-le-pow-right}
-use native.Mathlib.Decide.{ℕ-discrete}
 use native.Mathlib.Omega.{arith}
 use native.Mathlib.Numerals.{add-one}
-use mathlib.Core.Bool.{Bool, true, cond, not, _&&_}
+use mathlib.Core.Bool.{Bool, true, false, cond, not, _&&_}
 use mathlib.Core.List.{List, [], _∷_, _++_, map}
 use mathlib.Core.Path.{_≡_, refl, sym, ap, subst, _∙_}
 use lib.Dec.{T, eqb, lit<}
-use lib.ListN.{length, take, drop, getD, replicate, take-append-drop, drop-of-length-le}
-use lib.Seq.{drop-cons, drop-drop}
+use lib.ListN.{length, take, drop, getD, replicate, length-append, take-append-drop, drop-of-length-le}
+use lib.Seq.{drop-cons, drop-drop, take-append-seam, take-at}
 use borrow.Author.Tests.{eq-eqb, ne-eqb, lt-ltb, not-true}
 use Rattle.encoding.proofs.Promises.{cases, and-left, and-right, big-below}
 use Rattle.report.specs.Hex.{isBlank}
@@ -27,14 +26,15 @@ use Rattle.words.proofs.Promises.{first-word, last-blanks}
 use Rattle.listing.specs.Numbers.{decimal, signed, negated, signedOf}
 use Rattle.listing.specs.Text.{aligned, operandText, textOf, textAt, isInstruction}
 use Rattle.listing.specs.Line.{operandsOf, byWord, ended, byNumber, operandBy, fromOperand, byOpcode, nameBy, fromName, byOffset, lineBy, readLine, lineBytes}
+use Rattle.listing.specs.Meant.{headings, isHeading, isNot, before, beforeComment, meant}
 use Rattle.listing.specs.Listing.{listingFrom, listing, allInstructions, bytes, afterBytes, thenLines, readLines, joined, onto, linesOf, listingText, readText}
 use Rattle.listing.specs.declared.reading.Line.{Line}
 use Rattle.listing.specs.declared.reading.Line.the-variants.{Instruction}
 use Rattle.listing.proofs.BigBytes.{length-big, bytes-of-big}
 use Rattle.listing.proofs.Decimals.{decimal-value, decimal-digits, decimal-some}
 use Rattle.listing.proofs.Numbering.{digit-range, negated-value, signed-minus, signed-plain}
-use Rattle.listing.proofs.Opcodes.{GoodName, good-name}
-use Rattle.listing.proofs.Texting.{signed-low, signed-high, operand-none, operand-some, Instructed, instructed, text-parts}
+use Rattle.listing.proofs.Opcodes.{isPlain, GoodName, good-name}
+use Rattle.listing.proofs.Texting.{signed-low, signed-high, operand-none, operand-some, Instructed, instructed, rowText, row-parts, text-parts}
 
 -- ---- digits are in a word
 digit-in-word : (c : ℕ) → T (isDigit 10 c) → T (isInWord c)
@@ -48,10 +48,13 @@ digit-in-word c t =
       ne-eqb c 13 (λ z. omega (arith, r .0)),
     ) tt
 
+-- one test implies another
+all-by : (p q : ℕ → Bool) → ((c : ℕ) → T (p c) → T (q c)) → (l : List ℕ) → T (all p l) → T (all q l)
+all-by p q f [] t = tt
+all-by p q f (c ∷ l) t = both (q c) (all q l) (f c (and-left (p c) (all p l) t)) (all-by p q f l (and-right (p c) (all p l) t))
+
 all-in-word : (l : List ℕ) → T (all (isDigit 10) l) → T (all isInWord l)
-all-in-word [] t = tt
-all-in-word (c ∷ l) t =
-    both (isInWord c) (all isInWord l) (digit-in-word c (and-left (isDigit 10 c) (all (isDigit 10) l) t)) (all-in-word l (and-right (isDigit 10 c) (all (isDigit 10) l) t))
+all-in-word = all-by (isDigit 10) isInWord digit-in-word
 
 not-blank : (w : List ℕ) → T (all isInWord w) → T (stops isBlank w)
 unfolding isInWord
@@ -106,106 +109,186 @@ by-some w a b h = rw (ne-eqb (length (w .bytes)) 0 (λ z. omega (arith, z, h)))
 by-none : (w : Word) (a b : Line) → length (w .bytes) ≡ 0 → byWord w a b ≡ a
 by-none w a b h = rw (eq-eqb (length (w .bytes)) 0 h)
 
--- ---- the end of a line, and the operand before it
-ended-back : (op count v p : ℕ) → ended op count v p (10 ∷ []) ≡ Instruction op count v
-unfolding ended isBlank
-ended-back op count v p = by-none (firstWord p (10 ∷ [])) (Instruction op count v) _ (last-blanks p (10 ∷ []) tt)
-
-operand-back : (op count v p : ℕ) → v < 2 ^ 64 → v < 256 ^ count → fromOperand op count p ((32 ∷ []) ++ (signed v ++ (10 ∷ []))) ≡ Instruction op count v
-unfolding fromOperand isInWord isBlank
-operand-back op count v p h l =
-    let w : Word = record { column = p + 1; bytes = signed v; rest = 10 ∷ [] } in
-    let f = first-word p (32 ∷ []) (signed v) (10 ∷ []) tt (signed-word v h) (not-blank (signed v) (signed-word v h)) (signed-some v h) tt in
-    ap (operandBy op count) f ∙ by-some w _ (byNumber op count w (signedOf (signed v))) (signed-some v h)
-    ∙ ap (byNumber op count w) (number-back v h) ∙ rw (lt-ltb v (256 ^ count) l) (ended-back op count v (behind w))
+blank-stops : (r : List ℕ) → T (all isBlank r) → T (stops isInWord r)
+unfolding isInWord
+blank-stops [] t = tt
+blank-stops (c ∷ r) t = rw (truth (isBlank c) (and-left (isBlank c) (all isBlank r) t)) tt
 
 spaces : (n : ℕ) → T (all isBlank (replicate n 32))
 unfolding isBlank
 spaces zero = tt
 spaces (suc n) = spaces n
 
--- ---- the line from the name on
-abbrev tail : ℕ → ℕ → List ℕ
-tail count v = operandText count v ++ (10 ∷ [])
+-- ---- a line that ends with the blanks r: its end, and the operand before it
+module _ (r : List ℕ) (blank : T (all isBlank r)) where
+  ended-back : (op count v p : ℕ) → ended op count v p r ≡ Instruction op count v
+  unfolding ended
+  ended-back op count v p = by-none (firstWord p r) (Instruction op count v) _ (last-blanks p r blank)
 
-tail-none : (count v : ℕ) → count ≡ 0 → 10 ∷ [] ≡ tail count v
-tail-none count v h = ap (λ (l : List ℕ). l ++ (10 ∷ [])) (operand-none count v h)
+  operand-back : (op count v p : ℕ) → v < 2 ^ 64 → v < 256 ^ count → fromOperand op count p ((32 ∷ []) ++ (signed v ++ r)) ≡ Instruction op count v
+  unfolding fromOperand isBlank
+  operand-back op count v p h l =
+      let w : Word = record { column = p + 1; bytes = signed v; rest = r } in
+      let f = first-word p (32 ∷ []) (signed v) r tt (signed-word v h) (not-blank (signed v) (signed-word v h)) (signed-some v h) (blank-stops r blank) in
+      ap (operandBy op count) f ∙ by-some w _ (byNumber op count w (signedOf (signed v))) (signed-some v h)
+      ∙ ap (byNumber op count w) (number-back v h) ∙ rw (lt-ltb v (256 ^ count) l) (ended-back op count v (behind w))
 
-tail-some : (count v : ℕ) → (count ≡ 0 → ⊥) → (32 ∷ []) ++ (signed v ++ (10 ∷ [])) ≡ tail count v
-tail-some count v h = ap (λ (l : List ℕ). l ++ (10 ∷ [])) (operand-some count v h)
+  -- ---- the line from the name on
+  abbrev tail : ℕ → ℕ → List ℕ
+  tail count v = operandText count v ++ r
 
-tail-stops : (count v : ℕ) → T (stops isInWord (tail count v))
-unfolding isInWord isBlank
-tail-stops count v =
-    cases 0 count
-    (λ g. subst (λ (l : List ℕ). T (stops isInWord l)) (tail-some count v (λ z. omega (arith, z, g))) tt)
-    (λ l. subst (λ (m : List ℕ). T (stops isInWord m)) (tail-none count v (omega (arith, l))) tt)
+  tail-none : (count v : ℕ) → count ≡ 0 → r ≡ tail count v
+  tail-none count v h = ap (λ (l : List ℕ). l ++ r) (operand-none count v h)
 
-module _ (op count v : ℕ) (good : GoodName op) (is : count ≡ operandsOf op) (low : v < 2 ^ 64) (fits : v < 256 ^ count) where
-  rest-back : (p : ℕ) → cond (eqb count 0) (ended op 0 0 p (tail count v)) (fromOperand op count p (tail count v)) ≡ Instruction op count v
-  rest-back p =
+  tail-some : (count v : ℕ) → (count ≡ 0 → ⊥) → (32 ∷ []) ++ (signed v ++ r) ≡ tail count v
+  tail-some count v h = ap (λ (l : List ℕ). l ++ r) (operand-some count v h)
+
+  tail-stops : (count v : ℕ) → T (stops isInWord (tail count v))
+  unfolding isInWord isBlank
+  tail-stops count v =
       cases 0 count
-      (λ g.
-      let n : count ≡ 0 → ⊥ = λ z. omega (arith, z, g) in
-      rw (ne-eqb count 0 n) (ap (fromOperand op count p) (sym (tail-some count v n)) ∙ operand-back op count v p low fits))
-      (λ l.
-      let z : count ≡ 0 = omega (arith, l) in
-      let o : v < 256 ^ 0 = rw z at fits in
-      let y : v ≡ 0 = omega (arith, o) in
-      rw (eq-eqb count 0 z) (ap (ended op 0 0 p) (sym (tail-none count v z)) ∙ ended-back op 0 0 p ∙ ap (λ (x : ℕ). Instruction op x 0) (sym z) ∙ ap (Instruction op count) (sym y)))
+      (λ g. subst (λ (l : List ℕ). T (stops isInWord l)) (tail-some count v (λ z. omega (arith, z, g))) tt)
+      (λ l. subst (λ (m : List ℕ). T (stops isInWord m)) (tail-none count v (omega (arith, l))) (blank-stops r blank))
 
-  name-back : (p : ℕ) → fromName p ((32 ∷ 32 ∷ []) ++ (nameOf op ++ tail count v)) ≡ Instruction op count v
-  unfolding fromName isBlank
-  name-back p =
-      let w : Word = record { column = p + 2; bytes = nameOf op; rest = tail count v } in
-      let f = first-word p (32 ∷ 32 ∷ []) (nameOf op) (tail count v) tt (good .word) (not-blank (nameOf op) (good .word)) (good .some) (tail-stops count v) in
-      ap nameBy f ∙ by-some w _ (byOpcode (opcodeOf (nameOf op)) w) (good .some) ∙ ap (λ (x : ℕ). byOpcode x w) (good .back)
-      ∙ rw (ne-eqb op 53 (λ z. omega (arith, z, good .low)), ← is) (rest-back (behind w))
+  module _ (op count v : ℕ) (good : GoodName op) (is : count ≡ operandsOf op) (low : v < 2 ^ 64) (fits : v < 256 ^ count) where
+    rest-back : (p : ℕ) → cond (eqb count 0) (ended op 0 0 p (tail count v)) (fromOperand op count p (tail count v)) ≡ Instruction op count v
+    rest-back p =
+        cases 0 count
+        (λ g.
+        let n : count ≡ 0 → ⊥ = λ z. omega (arith, z, g) in
+        rw (ne-eqb count 0 n) (ap (fromOperand op count p) (sym (tail-some count v n)) ∙ operand-back op count v p low fits))
+        (λ l.
+        let z : count ≡ 0 = omega (arith, l) in
+        let o : v < 256 ^ 0 = rw z at fits in
+        let y : v ≡ 0 = omega (arith, o) in
+        rw (eq-eqb count 0 z) (ap (ended op 0 0 p) (sym (tail-none count v z)) ∙ ended-back op 0 0 p ∙ ap (λ (x : ℕ). Instruction op x 0) (sym z) ∙ ap (Instruction op count) (sym y)))
 
-  -- ---- the whole line
-  pub line-back : (at : ℕ) → at < 2 ^ 64 → readLine at (textOf at op count v) ≡ Instruction op count v
-  unfolding readLine textOf aligned isInWord isBlank
-  line-back at h =
-      let d = decimal at in
-      let b : List ℕ = replicate (3 - length d) 32 in
-      let r : List ℕ = (32 ∷ 32 ∷ []) ++ (nameOf op ++ tail count v) in
-      let t = all-in-word d (decimal-digits at) in
-      let w : Word = record { column = 0 + length b; bytes = d; rest = r } in
-      let line = (b ++ d) ++ r in
-      let f : firstWord 0 line ≡ w = ap (firstWord 0) (append-assoc b d r) ∙ first-word 0 b d r (spaces (3 - length d)) t (not-blank d t) (decimal-some at) tt in
-      ap (lineBy at line) f ∙ by-some w _ _ (decimal-some at)
-      ∙ rw (first-digit d (decimal-digits at) (decimal-some at)) (ap (byOffset at w) (unsigned-back at h) ∙ rw (eq-eqb at at refl) (name-back (behind w)))
+    name-back : (p : ℕ) → fromName p ((32 ∷ 32 ∷ []) ++ (nameOf op ++ tail count v)) ≡ Instruction op count v
+    unfolding fromName isBlank
+    name-back p =
+        let w : Word = record { column = p + 2; bytes = nameOf op; rest = tail count v } in
+        let f = first-word p (32 ∷ 32 ∷ []) (nameOf op) (tail count v) tt (good .word) (not-blank (nameOf op) (good .word)) (good .some) (tail-stops count v) in
+        ap nameBy f ∙ by-some w _ (byOpcode (opcodeOf (nameOf op)) w) (good .some) ∙ ap (λ (x : ℕ). byOpcode x w) (good .back)
+        ∙ rw (ne-eqb op 53 (λ z. omega (arith, z, good .low)), ← is) (rest-back (behind w))
 
--- ---- line feeds
-abbrev isNoFeed : ℕ → Bool
-isNoFeed c = not (eqb c 10)
+    -- ---- the whole line
+    pub line-back : (at : ℕ) → at < 2 ^ 64 → readLine at (rowText at op count v ++ r) ≡ Instruction op count v
+    unfolding readLine aligned isInWord isBlank
+    line-back at h =
+        let d = decimal at in
+        let b : List ℕ = replicate (3 - length d) 32 in
+        let s : List ℕ = (32 ∷ 32 ∷ []) ++ (nameOf op ++ tail count v) in
+        let t = all-in-word d (decimal-digits at) in
+        let w : Word = record { column = 0 + length b; bytes = d; rest = s } in
+        let line = (b ++ d) ++ s in
+        let f : firstWord 0 line ≡ w = ap (firstWord 0) (append-assoc b d s) ∙ first-word 0 b d s (spaces (3 - length d)) t (not-blank d t) (decimal-some at) tt in
+        ap (readLine at) (row-parts at op count v r) ∙ ap (lineBy at line) f ∙ by-some w _ _ (decimal-some at)
+        ∙ rw (first-digit d (decimal-digits at) (decimal-some at)) (ap (byOffset at w) (unsigned-back at h) ∙ rw (eq-eqb at at refl) (name-back (behind w)))
 
-no-feed : (c : ℕ) → T (isInWord c) → T (isNoFeed c)
-unfolding isInWord isBlank
-no-feed c t = elim (ℕ-discrete c 10) [ yes e ↦ absurd (subst (λ (x : ℕ). T (isInWord x)) e t) | no n ↦ rw (ne-eqb c 10 n) tt ]
+-- ---- plain characters: neither a line feed nor #
+digit-plain : (c : ℕ) → T (isDigit 10 c) → T (isPlain c)
+digit-plain c t =
+    let r = digit-range c (truth (isDigit 10 c) t) in
+    rw (ne-eqb c 10 (λ z. omega (arith, r .0)), ne-eqb c 35 (λ z. omega (arith, r .0))) tt
 
-feedless-word : (w : List ℕ) → T (all isInWord w) → T (all isNoFeed w)
-feedless-word [] t = tt
-feedless-word (c ∷ w) t =
-    both (isNoFeed c) (all isNoFeed w) (no-feed c (and-left (isInWord c) (all isInWord w) t)) (feedless-word w (and-right (isInWord c) (all isInWord w) t))
+plain-digits : (n : ℕ) → T (all isPlain (decimal n))
+plain-digits n = all-by (isDigit 10) isPlain digit-plain (decimal n) (decimal-digits n)
 
-feedless-spaces : (n : ℕ) → T (all isNoFeed (replicate n 32))
-feedless-spaces zero = tt
-feedless-spaces (suc n) = feedless-spaces n
+plain-spaces : (n : ℕ) → T (all isPlain (replicate n 32))
+plain-spaces zero = tt
+plain-spaces (suc n) = plain-spaces n
 
-feedless-operand : (count v : ℕ) → v < 2 ^ 64 → T (all isNoFeed (operandText count v))
-feedless-operand count v h =
+plain-signed : (v : ℕ) → v < 2 ^ 64 → T (all isPlain (signed v))
+plain-signed v h =
+    cases v (2 ^ 63)
+    (λ l. subst (λ (w : List ℕ). T (all isPlain w)) (signed-low v l) (plain-digits v))
+    (λ g. subst (λ (w : List ℕ). T (all isPlain w)) (signed-high v g h) (plain-digits (18446744073709551615 - v + 1)))
+
+plain-operand : (count v : ℕ) → v < 2 ^ 64 → T (all isPlain (operandText count v))
+plain-operand count v h =
     cases 0 count
-    (λ g. subst (λ (l : List ℕ). T (all isNoFeed l)) (operand-some count v (λ z. omega (arith, z, g))) (feedless-word (signed v) (signed-word v h)))
-    (λ l. subst (λ (m : List ℕ). T (all isNoFeed m)) (operand-none count v (omega (arith, l))) tt)
+    (λ g. subst (λ (l : List ℕ). T (all isPlain l)) (operand-some count v (λ z. omega (arith, z, g))) (plain-signed v h))
+    (λ l. subst (λ (m : List ℕ). T (all isPlain m)) (operand-none count v (omega (arith, l))) tt)
+
+plain-row : (at op count v : ℕ) → GoodName op → v < 2 ^ 64 → T (all isPlain (rowText at op count v))
+unfolding aligned
+plain-row at op count v good low =
+    let d = decimal at in
+    let b : List ℕ = replicate (3 - length d) 32 in
+    let s : List ℕ = 32 ∷ 32 ∷ [] in
+    all-append isPlain (((b ++ d) ++ s) ++ nameOf op) (operandText count v)
+    (all-append isPlain ((b ++ d) ++ s) (nameOf op)
+    (all-append isPlain (b ++ d) s (all-append isPlain b d (plain-spaces (3 - length d)) (plain-digits at)) tt)
+    (good .plain))
+    (plain-operand count v low)
+
+-- ---- a plain text p in front: it is not cut
+before-front : (c : ℕ) (p m : List ℕ) → T (all (isNot c) p) → before c (p ++ m) ≡ p ++ before c m
+before-front c [] m t = refl
+before-front c (x ∷ p) m t =
+    rw (truth (isNot c x) (and-left (isNot c x) (all (isNot c) p) t)) (ap (λ (l : List ℕ). x ∷ l) (before-front c p m (and-right (isNot c x) (all (isNot c) p) t)))
+
+feedless : (p : List ℕ) → T (all isPlain p) → T (all (isNot 10) p)
+feedless = all-by isPlain (isNot 10) (λ c. and-left (isNot 10 c) (isNot 35 c))
+
+comment-behind : (p m : List ℕ) → T (all isPlain p) → beforeComment (p ++ m) ≡ p ++ beforeComment m
+unfolding beforeComment
+comment-behind p m t =
+    ap (before 35) (before-front 10 p m (feedless p t)) ∙ before-front 35 p (before 10 m) (all-by isPlain (isNot 35) (λ c. and-right (isNot 10 c) (isNot 35 c)) p t)
+
+-- ---- no heading begins with a digit or a blank
+no-heading : (c : ℕ) (l : List ℕ) → c < 65 → isHeading (c ∷ l) ≡ false
+unfolding isHeading headings
+no-heading c l h =
+    rw (
+      ne-eqb c 83 (λ z. omega (arith, z, h)),
+      ne-eqb c 82 (λ z. omega (arith, z, h)),
+      ne-eqb c 97 (λ z. omega (arith, z, h)),
+      ne-eqb c 114 (λ z. omega (arith, z, h)),
+      ne-eqb c 98 (λ z. omega (arith, z, h)),
+    )
+
+number-first : (n : ℕ) (d l : List ℕ) → 0 < length d → getD d 0 0 < 65 → isHeading ((replicate n 32 ++ d) ++ l) ≡ false
+number-first zero [] l g h = absurd (omega (arith, g))
+number-first zero (c ∷ d) l g h = no-heading c (d ++ l) h
+number-first (suc n) d l g h = no-heading 32 ((replicate n 32 ++ d) ++ l) (lit< tt)
+
+-- ---- the line of an instruction, with m behind it, of which no more than blanks is meant
+module _ (op count v : ℕ) (good : GoodName op) (is : count ≡ operandsOf op) (low : v < 2 ^ 64) (fits : v < 256 ^ count) (at : ℕ) (h : at < 2 ^ 64) where
+  row-instructs : (m : List ℕ) → isHeading (rowText at op count v ++ m) ≡ false
+  unfolding aligned
+  row-instructs m =
+      let d = decimal at in
+      let f = digit-range (getD d 0 0) (first-digit d (decimal-digits at) (decimal-some at)) in
+      ap isHeading (row-parts at op count v m) ∙ number-first (3 - length d) d _ (decimal-some at) (omega (arith, f .1))
+
+  pub row-back : (m : List ℕ) → T (all isBlank (beforeComment m)) → meant at (rowText at op count v ++ m) ≡ Instruction op count v
+  unfolding meant
+  row-back m t =
+      rw (row-instructs m)
+      (ap (readLine at) (comment-behind (rowText at op count v) m (plain-row at op count v good low)) ∙ line-back (beforeComment m) t op count v good is low fits at h)
+
+  -- a line a, which is the text of the instruction without its line feed, with n spaces and a comment behind it
+  pub comment-back : (a : List ℕ) → a ++ (10 ∷ []) ≡ textOf at op count v → (n : ℕ) (t : List ℕ) → meant at (a ++ (replicate n 32 ++ (35 ∷ t))) ≡ Instruction op count v
+  unfolding textOf beforeComment
+  comment-back a e n t =
+      let w = rowText at op count v in
+      let f : List ℕ = 10 ∷ [] in
+      let q : a ++ f ≡ w ++ f = e ∙ sym (row-parts at op count v f) in
+      let k : length w ≡ length a = omega (arith, ap length q, length-append a f, length-append w f) in
+      let same : a ≡ w = sym (take-append-seam a f) ∙ ap (take (length a)) q ∙ take-at w f (length a) k in
+      let b : List ℕ = replicate n 32 in
+      let m : beforeComment (b ++ (35 ∷ t)) ≡ b ++ [] = comment-behind b (35 ∷ t) (plain-spaces n) in
+      ap (λ (l : List ℕ). meant at (l ++ (b ++ (35 ∷ t)))) same
+      ∙ row-back (b ++ (35 ∷ t)) (subst (λ (l : List ℕ). T (all isBlank l)) (sym (m ∙ append-nil b)) (spaces n))
 
 -- the text of one line and then r
-line-divided : (a r : List ℕ) → T (all isNoFeed a) → linesOf ((a ++ (10 ∷ [])) ++ r) ≡ (a ++ (10 ∷ [])) ∷ linesOf r
+line-divided : (a r : List ℕ) → T (all (isNot 10) a) → linesOf ((a ++ (10 ∷ [])) ++ r) ≡ (a ++ (10 ∷ [])) ∷ linesOf r
 unfolding linesOf
 line-divided [] r t = refl
 line-divided (c ∷ a) r t =
-    let u = and-left (isNoFeed c) (all isNoFeed a) t in
-    let i = line-divided a r (and-right (isNoFeed c) (all isNoFeed a) t) in
+    let u = and-left (isNot 10 c) (all (isNot 10) a) t in
+    let i = line-divided a r (and-right (isNot 10 c) (all (isNot 10) a) t) in
     rw (not-true (eqb c 10) (truth (not (eqb c 10)) u)) (ap (onto c) i)
 
 -- an operand is a word of 64 bits
@@ -223,8 +306,16 @@ module _ (e : List ℕ) (low : (j : ℕ) → getD e j 0 < 256) where
     operand-low = word-low (getD e k 0) (operand e k) operand-below
 
     pub instruction-back : k < 2 ^ 64 → readLine k (textAt e k) ≡ Instruction (getD e k 0) (operandBytes e k) (operand e k)
-    unfolding textAt
-    instruction-back h = line-back (getD e k 0) (operandBytes e k) (operand e k) (good-name (getD e k 0) (i .supported)) refl operand-low operand-below k h
+    unfolding isBlank
+    instruction-back h =
+        ap (readLine k) (sym (text-parts e k))
+        ∙ line-back (10 ∷ []) tt (getD e k 0) (operandBytes e k) (operand e k) (good-name (getD e k 0) (i .supported)) refl operand-low operand-below k h
+
+    instruction-meant : k < 2 ^ 64 → meant k (textAt e k) ≡ Instruction (getD e k 0) (operandBytes e k) (operand e k)
+    unfolding beforeComment
+    instruction-meant h =
+        ap (meant k) (sym (text-parts e k))
+        ∙ row-back (getD e k 0) (operandBytes e k) (operand e k) (good-name (getD e k 0) (i .supported)) refl operand-low operand-below k h (10 ∷ []) tt
 
     -- its bytes are those of the expression
     pub instruction-bytes : lineBytes (Instruction (getD e k 0) (operandBytes e k) (operand e k)) ≡ take (1 + operandBytes e k) (drop k e)
@@ -238,61 +329,47 @@ module _ (e : List ℕ) (low : (j : ℕ) → getD e j 0 < 256) where
 
   -- ---- a listing from offset i on
   abbrev Back : ℕ → Type 0
-  Back i = length e < 2 ^ 64 → T (allInstructions e (startsFrom e i)) → readLines i (listingFrom e i) ≡ bytes (drop i e)
+  Back i = length e < 2 ^ 64 → T (allInstructions e (startsFrom e i)) → (n : ℕ) → readLines n i (listingFrom e i) ≡ bytes (drop i e)
 
   back-end : (i : ℕ) → length e ≤ i → Back i
   unfolding listingFrom readLines
-  back-end i h s t = ap (λ (l : List ℕ). readLines i (map (textAt e) l)) (from-end e i h) ∙ ap bytes (sym (drop-of-length-le e h))
+  back-end i h s t n = ap (λ (l : List ℕ). readLines n i (map (textAt e) l)) (from-end e i h) ∙ ap bytes (sym (drop-of-length-le e h))
 
   back-next : (i : ℕ) → i < length e → Back (next e i) → Back i
   unfolding listingFrom readLines
-  back-next i h b s t =
+  back-next i h b s t m =
       let u : T (isInstruction e i && allInstructions e (startsFrom e (next e i))) = subst (λ (l : List ℕ). T (allInstructions e l)) (from-next e i h) t in
       let c = instructed e i (truth (isInstruction e i) (and-left (isInstruction e i) (allInstructions e (startsFrom e (next e i))) u)) in
-      let g = b s (and-right (isInstruction e i) (allInstructions e (startsFrom e (next e i))) u) in
+      let g = b s (and-right (isInstruction e i) (allInstructions e (startsFrom e (next e i))) u) (m + 1) in
       let n = operandBytes e i in
-      let m = Instruction (getD e i 0) n (operand e i) in
-      let d = lineBytes m in
+      let d = lineBytes (Instruction (getD e i 0) n (operand e i)) in
       let z : d ≡ take (1 + n) (drop i e) = instruction-bytes i c in
       let y : i + length d ≡ next e i = omega (arith, length-big n (operand e i)) in
       let q : i + (1 + n) ≡ next e i = omega arith in
       let x : drop (1 + n) (drop i e) ≡ drop (next e i) e = drop-drop (1 + n) i e ∙ ap (λ (j : ℕ). drop j e) q in
       let r = map (textAt e) (startsFrom e (next e i)) in
-      ap (λ (l : List ℕ). readLines i (map (textAt e) l)) (from-next e i h)
-      ∙ ap (λ (l : Line). thenLines l (λ a. afterBytes a (readLines (i + length a) r))) (instruction-back i c (omega (arith, s, h)))
-      ∙ ap (λ (j : ℕ). afterBytes d (readLines j r)) y
+      ap (λ (l : List ℕ). readLines m i (map (textAt e) l)) (from-next e i h)
+      ∙ ap (λ (l : Line). thenLines m l (λ a. afterBytes a (readLines (m + 1) (i + length a) r))) (instruction-meant i c (omega (arith, s, h)))
+      ∙ ap (λ (j : ℕ). afterBytes d (readLines (m + 1) j r)) y
       ∙ ap (afterBytes d) g
       ∙ ap bytes (ap (λ (l : List ℕ). l ++ drop (next e i) e) z ∙ ap (λ (l : List ℕ). take (1 + n) (drop i e) ++ l) (sym x) ∙ take-append-drop (1 + n) (drop i e))
 
-  pub listing-back : (i : ℕ) → length e < 2 ^ 64 → T (allInstructions e (startsFrom e i)) → readLines i (listingFrom e i) ≡ bytes (drop i e)
+  pub listing-back : (i : ℕ) → length e < 2 ^ 64 → T (allInstructions e (startsFrom e i)) → (n : ℕ) → readLines n i (listingFrom e i) ≡ bytes (drop i e)
   listing-back = by-starts e Back back-end back-next
 
   -- ---- a listing as one text: no line has a line feed but at its end
-  feedless : (k : ℕ) → Instructed e k
-      → T (all isNoFeed (((aligned (decimal k) ++ (32 ∷ 32 ∷ [])) ++ nameOf (getD e k 0)) ++ operandText (operandBytes e k) (operand e k)))
-  unfolding aligned
-  feedless k i =
-      let d = decimal k in
-      let b : List ℕ = replicate (3 - length d) 32 in
-      let s : List ℕ = 32 ∷ 32 ∷ [] in
-      let n = nameOf (getD e k 0) in
-      all-append isNoFeed (((b ++ d) ++ s) ++ n) (operandText (operandBytes e k) (operand e k))
-      (all-append isNoFeed ((b ++ d) ++ s) n
-      (all-append isNoFeed (b ++ d) s (all-append isNoFeed b d (feedless-spaces (3 - length d)) (feedless-word d (all-in-word d (decimal-digits k)))) tt)
-      (feedless-word n (good-name (getD e k 0) (i .supported) .word)))
-      (feedless-operand (operandBytes e k) (operand e k) (operand-low k i))
-
   lines-back : (ks : List ℕ) → T (allInstructions e ks) → linesOf (joined (map (textAt e) ks)) ≡ map (textAt e) ks
   unfolding linesOf
   lines-back [] t = refl
   lines-back (k ∷ ks) t =
       let i = instructed e k (truth (isInstruction e k) (and-left (isInstruction e k) (allInstructions e ks) t)) in
-      let f = ((aligned (decimal k) ++ (32 ∷ 32 ∷ [])) ++ nameOf (getD e k 0)) ++ operandText (operandBytes e k) (operand e k) in
+      let f = rowText k (getD e k 0) (operandBytes e k) (operand e k) in
+      let p = plain-row k (getD e k 0) (operandBytes e k) (operand e k) (good-name (getD e k 0) (i .supported)) (operand-low k i) in
       let q : f ++ (10 ∷ []) ≡ textAt e k = text-parts e k in
       let r = joined (map (textAt e) ks) in
-      ap (λ (l : List ℕ). linesOf (l ++ r)) (sym q) ∙ line-divided f r (feedless k i) ∙ ap (λ (l : List ℕ). l ∷ linesOf r) q
+      ap (λ (l : List ℕ). linesOf (l ++ r)) (sym q) ∙ line-divided f r (feedless f p) ∙ ap (λ (l : List ℕ). l ∷ linesOf r) q
       ∙ ap (λ (ls : List (List ℕ)). textAt e k ∷ ls) (lines-back ks (and-right (isInstruction e k) (allInstructions e ks) t))
 
   pub text-back : length e < 2 ^ 64 → T (allInstructions e (startsFrom e 0)) → readText (listingText e) ≡ bytes e
   unfolding readText listingText listing listingFrom
-  text-back h t = ap (readLines 0) (lines-back (startsFrom e 0) t) ∙ listing-back 0 h t
+  text-back h t = ap (readLines 1 0) (lines-back (startsFrom e 0) t) ∙ listing-back 0 h t 1

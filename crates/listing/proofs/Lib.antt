@@ -2,8 +2,10 @@
 pub mod Promises
 mod BigBytes
 mod Decimals
+mod Dividing
 mod Inverse
 mod Lining
 mod Numbering
 mod Opcodes
+mod Outcomes
 mod Texting

@@ -21,6 +21,7 @@ use Rattle.words.specs.Words.{leading, isInWord, sameBytes, placeFrom}
 use Rattle.words.proofs.Promises.{all}
 use Rattle.words.proofs.Promises.{same-sound}
 use Rattle.listing.specs.Names.{names, nameOf, opcodeOf, table}
+use Rattle.listing.specs.Meant.{isNot}
 
 -- ---- a test of every opcode below n
 pub below-at : (n : ℕ) (f : ℕ → Bool) → T (below n f) → (k : ℕ) → k < n → T (f k)
@@ -72,11 +73,15 @@ module _ {w : List ℕ} {op : ℕ} (f : Finding w op) where
   unfolding placeFrom
   finding-none h = (sym (f .rest ∙ ap (λ (l : List String). placeFrom op l w) (let n : length names ≤ op = omega (arith, names-length) in drop-of-length-le names n)), f .most)
 
--- ---- a supported opcode: its name is a word that does not begin with a digit, and is the name of no opcode before it
+-- ---- no line feed, and no beginning of a comment
+abbrev pub isPlain : ℕ → Bool
+isPlain c = isNot 10 c && isNot 35 c
+
+-- ---- a supported opcode: its name is a plain word that does not begin with a digit, and is the name of no opcode before it
 abbrev nameGood : ℕ → Bool
 nameGood op =
     cond (ltb kind-unsupported (kind (classOf op)))
-    (eqb (opcodeOf (nameOf op)) op && (all isInWord (nameOf op) && (ltb 0 (length (nameOf op)) && leb (length (nameOf op)) 13))) true
+    (eqb (opcodeOf (nameOf op)) op && (all isInWord (nameOf op) && (all isPlain (nameOf op) && (ltb 0 (length (nameOf op)) && leb (length (nameOf op)) 13)))) true
 
 names-good : T (below 53 nameGood)
 unfolding opcodeOf placeFrom names nameOf isInWord isBlank opcodes classOf
@@ -86,6 +91,7 @@ pub record GoodName (op : ℕ) : Type 0 where
   pub low : op < 53
   pub back : opcodeOf (nameOf op) ≡ op
   pub word : T (all isInWord (nameOf op))
+  pub plain : T (all isPlain (nameOf op))
   pub some : 0 < length (nameOf op)
   pub most : length (nameOf op) ≤ 13
 
@@ -95,16 +101,19 @@ good-name op h =
     let t = rw (lt-ltb kind-unsupported (kind (classOf op)) h) at (below-at 53 nameGood names-good op l) in
     let back = eqb (opcodeOf (nameOf op)) op in
     let word = all isInWord (nameOf op) in
+    let plain = all isPlain (nameOf op) in
     let some = ltb 0 (length (nameOf op)) in
     let most = leb (length (nameOf op)) 13 in
-    let u = and-right back (word && (some && most)) t in
-    let v = and-right word (some && most) u in
+    let u = and-right back (word && (plain && (some && most))) t in
+    let v = and-right word (plain && (some && most)) u in
+    let w = and-right plain (some && most) v in
     record {
       low = l;
-      back = eqb→eq (opcodeOf (nameOf op)) op (and-left back (word && (some && most)) t);
-      word = and-left word (some && most) u;
-      some = ltb→lt 0 (length (nameOf op)) (and-left some most v);
-      most = leb→le (length (nameOf op)) 13 (and-right some most v);
+      back = eqb→eq (opcodeOf (nameOf op)) op (and-left back (word && (plain && (some && most))) t);
+      word = and-left word (plain && (some && most)) u;
+      plain = and-left plain (some && most) v;
+      some = ltb→lt 0 (length (nameOf op)) (and-left some most w);
+      most = leb→le (length (nameOf op)) 13 (and-right some most w);
     }
 
 -- ---- a row t of the table as the code reads it

@@ -1,29 +1,44 @@
 -- What users of `listing` may cite. The contracts of src/ are the rest.
 use mathlib.Core.Bool.{true}
-use mathlib.Core.List.{List}
-use mathlib.Core.Path.{_≡_, refl, ap, _∙_}
+use mathlib.Core.List.{List, [], _∷_, _++_}
+use mathlib.Core.Path.{_≡_, refl, sym, ap, _∙_}
 use Prim.Native.Nat.{ℕ, _+_, _^_, _≤_, _<_}
 use lib.Dec.{T}
-use lib.ListN.{length, take, drop, getD}
+use lib.ListN.{length, take, drop, getD, replicate}
 use Rattle.io.specs.Digits.{digits, Fewest}
+use Rattle.report.specs.Hex.{isBlank}
 use Rattle.report.specs.Text.{Appends}
+use Rattle.encoding.specs.Written.{writtenAt}
 use Rattle.isa.specs.Classes.{kind, classOf, kind-unsupported}
 use Rattle.isa.specs.Decode.{operandBytes}
 use Rattle.isa.specs.Starts.{starts}
 use Rattle.listing.specs.Numbers.{decimal}
 use Rattle.listing.specs.Text.{textOf, textAt, isInstruction}
 use Rattle.listing.specs.Line.{operandsOf, readLine, lineBytes}
-use Rattle.listing.specs.Listing.{listing, allInstructions, bytes, readLines, listingText, readText}
+use Rattle.listing.specs.Meant.{meant}
+use Rattle.listing.specs.Listing.{listing, allInstructions, bytes, fault, readLines, listingText, readText}
+use Rattle.listing.specs.Whole.{outcome}
+use Rattle.listing.specs.declared.reading.Fault.{Fault}
 use Rattle.listing.specs.declared.reading.Line.the-variants.{Instruction}
+use Rattle.listing.specs.declared.whole.Whole.the-variants.{Bytes, Wrong}
 use Rattle.listing.proofs.Decimals as decimals
 use Rattle.listing.proofs.Inverse as inverse
 use Rattle.listing.proofs.Opcodes.{good-name}
+use Rattle.listing.proofs.Outcomes as outcomes
 use Rattle.listing.proofs.Texting as texting
 
 -- the text of a supported instruction with an operand that fits is read back as it
 pub text-read-back : (at op v : ℕ) → at < 2 ^ 64 → kind-unsupported < kind (classOf op) → v < 256 ^ operandsOf op
     → readLine at (textOf at op (operandsOf op) v) ≡ Instruction op (operandsOf op) v
-text-read-back at op v h s f = inverse.line-back op (operandsOf op) v (good-name op s) refl (inverse.word-low op v f) f at h
+unfolding textOf isBlank
+text-read-back at op v h s f =
+    ap (readLine at) (sym (texting.row-parts at op (operandsOf op) v (10 ∷ []))) ∙ inverse.line-back (10 ∷ []) tt op (operandsOf op) v (good-name op s) refl (inverse.word-low op v f) f at h
+
+-- and so is the line a, which is that text without its line feed, with n spaces and a comment behind it
+pub row-read-back : (at op v : ℕ) → at < 2 ^ 64 → kind-unsupported < kind (classOf op) → v < 256 ^ operandsOf op
+    → (a : List ℕ) → a ++ (10 ∷ []) ≡ textOf at op (operandsOf op) v
+    → (n : ℕ) (t : List ℕ) → meant at (a ++ (replicate n 32 ++ (35 ∷ t))) ≡ Instruction op (operandsOf op) v
+row-read-back at op v h s f = inverse.comment-back op (operandsOf op) v (good-name op s) refl (inverse.word-low op v f) f at h
 
 -- the text of an instruction of an expression is read back as its bytes
 pub instruction-read-back : (e : List ℕ) → ((j : ℕ) → getD e j 0 < 256) → (k : ℕ) → k < 2 ^ 64 → isInstruction e k ≡ true
@@ -31,13 +46,24 @@ pub instruction-read-back : (e : List ℕ) → ((j : ℕ) → getD e j 0 < 256) 
 instruction-read-back e low k h i = ap lineBytes (inverse.instruction-back e low k (texting.instructed e k i) h) ∙ inverse.instruction-bytes e low k (texting.instructed e k i)
 
 -- and the listing of an expression as the expression
-pub listing-read-back : (e : List ℕ) → ((j : ℕ) → getD e j 0 < 256) → length e < 2 ^ 64 → T (allInstructions e (starts e)) → readLines 0 (listing e) ≡ bytes e
+pub listing-read-back : (e : List ℕ) → ((j : ℕ) → getD e j 0 < 256) → length e < 2 ^ 64 → T (allInstructions e (starts e)) → readLines 1 0 (listing e) ≡ bytes e
 unfolding listing
-listing-read-back e low h t = inverse.listing-back e low 0 h t
+listing-read-back e low h t = inverse.listing-back e low 0 h t 1
 
 -- as one text
 pub listing-text-read-back : (e : List ℕ) → ((j : ℕ) → getD e j 0 < 256) → length e < 2 ^ 64 → T (allInstructions e (starts e)) → readText (listingText e) ≡ bytes e
 listing-text-read-back e low h t = inverse.text-back e low h t
+
+-- what `read_listing` answers and leaves where the text has no fault, and the buffer has room
+pub text-outcome : (t o b : List ℕ) → readText t ≡ bytes b → length b ≤ length o → outcome t o ≡ record { answer = Bytes (length b); left = writtenAt o 0 b }
+text-outcome = outcomes.text-right
+
+-- where it answers with a number of bytes, those in the buffer are the text's; where it names a line with a fault, the text has it there first
+pub answered-bytes : (t o : List ℕ) (k : ℕ) → outcome t o .answer ≡ Bytes k → k ≤ length o → readText t ≡ bytes (take k (outcome t o .left))
+answered-bytes = outcomes.told-right
+
+pub answered-wrong : (t o : List ℕ) (n : ℕ) (f : Fault) (c : ℕ) → outcome t o .answer ≡ Wrong n f c → readText t ≡ fault n f c
+answered-wrong = outcomes.told-wrong
 
 -- a number, as `report::text::append_number` ensures it, is appended in decimal
 pub appends-number : {b b' : List ℕ} {n n' : ℕ} (v : ℕ) → ((k : ℕ) × Fewest 10 1 v k × Appends b n (digits 10 k v) b' n') → Appends b n (decimal v) b' n'

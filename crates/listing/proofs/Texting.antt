@@ -116,16 +116,21 @@ named-parts e k op count v o n x =
     ∙ ap (λ (i : ℕ). nameOf (getD e k 0) ++ operandText i v) n
     ∙ ap (λ (i : ℕ). nameOf (getD e k 0) ++ operandText (operandBytes e k) i) x
 
-pub text-parts : (e : List ℕ) (k : ℕ)
-    → (((aligned (decimal k) ++ (32 ∷ 32 ∷ [])) ++ nameOf (getD e k 0)) ++ operandText (operandBytes e k) (operand e k)) ++ (10 ∷ []) ≡ textAt e k
-unfolding textAt textOf
-text-parts e k =
-    let a = aligned (decimal k) in
+-- what stands before the line feed
+abbrev pub rowText : ℕ → ℕ → ℕ → ℕ → List ℕ
+rowText at op count v = ((aligned (decimal at) ++ (32 ∷ 32 ∷ [])) ++ nameOf op) ++ operandText count v
+
+pub row-parts : (at op count v : ℕ) (l : List ℕ)
+    → rowText at op count v ++ l ≡ aligned (decimal at) ++ ((32 ∷ 32 ∷ []) ++ (nameOf op ++ (operandText count v ++ l)))
+row-parts at op count v l =
+    let a = aligned (decimal at) in
     let s : List ℕ = 32 ∷ 32 ∷ [] in
-    let m = nameOf (getD e k 0) in
-    let p = operandText (operandBytes e k) (operand e k) in
-    let l : List ℕ = 10 ∷ [] in
-    append-assoc ((a ++ s) ++ m) p l ∙ append-assoc (a ++ s) m (p ++ l) ∙ append-assoc a s (m ++ (p ++ l))
+    let p = operandText count v in
+    append-assoc ((a ++ s) ++ nameOf op) p l ∙ append-assoc (a ++ s) (nameOf op) (p ++ l) ∙ append-assoc a s (nameOf op ++ (p ++ l))
+
+pub text-parts : (e : List ℕ) (k : ℕ) → rowText k (getD e k 0) (operandBytes e k) (operand e k) ++ (10 ∷ []) ≡ textAt e k
+unfolding textAt textOf
+text-parts e k = row-parts k (getD e k 0) (operandBytes e k) (operand e k) (10 ∷ [])
 
 pub text-named : (e : List ℕ) (k : ℕ) → ((aligned (decimal k) ++ (32 ∷ 32 ∷ [])) ++ namedAt e k) ++ (10 ∷ []) ≡ textAt e k
 unfolding namedAt

@@ -1,4 +1,4 @@
--- The text of some instructions, and what some lines say. Assumes nothing.
+-- The text of some instructions, and what some lines and listings say. Assumes nothing.
 use mathlib.Core.Path.{_≡_, refl}
 use mathlib.Core.List.{[], _∷_, map}
 use Rattle.isa.specs.Classes.{opcodes, classOf}
@@ -7,9 +7,11 @@ use Rattle.report.specs.Text.{bytesOf}
 use Rattle.listing.specs.Names.{names, nameOf, opcodeOf}
 use Rattle.words.specs.Words.{isInWord, firstWord, placeFrom}
 use Rattle.words.specs.Numbers.{isDigit, valueFrom, numberIn}
-use Rattle.listing.specs.Numbers.{decimalBy, decimal, signed, negated, signedOf}
+use Rattle.listing.specs.Numbers.{decimalBy, decimal, signed, negated, signedOf, bigBytes}
 use Rattle.listing.specs.Text.{aligned, operandText, textOf}
 use Rattle.listing.specs.Line.{ended, fromOperand, fromName, readLine}
+use Rattle.listing.specs.Meant.{headings, isHeading, beforeComment, meant}
+use Rattle.listing.specs.Listing.{bytes, fault, readLines, linesOf, readText}
 use Rattle.listing.specs.declared.reading.Fault.the-variants.{WrongOffset, NoName, UnknownName, NoOperand, NotNumber, TooLarge, Trailing}
 use Rattle.listing.specs.declared.reading.Line.the-variants.{Nothing, Instruction, Wrong}
 
@@ -28,3 +30,10 @@ lines :
     ∷ Wrong WrongOffset 0 ∷ Wrong NoName 1 ∷ Wrong UnknownName 2 ∷ Wrong NoOperand 3 ∷ Wrong NotNumber 4 ∷ Wrong TooLarge 4 ∷ Wrong TooLarge 4 ∷ Wrong Trailing 4 ∷ []
 unfolding readLine fromName fromOperand ended firstWord isInWord isBlank digitOf isDigit numberIn signedOf negated valueFrom opcodeOf placeFrom names classOf opcodes
 lines = refl
+
+-- a heading, a comment, and a last line without a line feed; a fault in the second line
+listings :
+    map (λ s. readText (bytesOf s)) ("Scope: main\n  0  const8 5  # height 0\n  2  end" ∷ "end\npop 1\n" ∷ "" ∷ [])
+    ≡ bytes (0x22 ∷ 5 ∷ 0x27 ∷ []) ∷ fault 2 Trailing 4 ∷ bytes [] ∷ []
+unfolding readText readLines linesOf meant isHeading headings beforeComment readLine fromName fromOperand ended firstWord isInWord isBlank digitOf isDigit numberIn signedOf valueFrom opcodeOf placeFrom names classOf opcodes bigBytes
+listings = refl

@@ -3,5 +3,7 @@ pub mod Names
 pub mod Numbers
 pub mod Text
 pub mod Line
+pub mod Meant
 pub mod Listing
+pub mod Whole
 mod Examples

@@ -1,12 +1,14 @@
 -- A whole listing: one line an instruction, and such lines read one after the other.
-use Prim.Native.Nat.{ℕ, _+_}
+use Prim.Native.Nat.{ℕ, _+_, _-_, _<_, _≤_}
 use mathlib.Core.Bool.{Bool, true, cond, _&&_}
 use mathlib.Core.List.{List, [], _∷_, _++_, map}
+use mathlib.Core.Path.{_≡_}
 use lib.Dec.{eqb}
-use lib.ListN.{length}
+use lib.ListN.{length, take, drop}
 use Rattle.isa.specs.Starts.{startsFrom}
 use Rattle.listing.specs.Text.{textAt, isInstruction}
-use Rattle.listing.specs.Line.{readLine, lineBytes}
+use Rattle.listing.specs.Line.{lineBytes}
+use Rattle.listing.specs.Meant.{meant}
 use Rattle.listing.specs.declared.reading.Fault.{Fault}
 use Rattle.listing.specs.declared.reading.Line.{Line}
 use Rattle.listing.specs.declared.reading.Line.the-variants.{Nothing, Instruction, Wrong}
@@ -23,24 +25,24 @@ abbrev pub allInstructions : List ℕ → List ℕ → Bool
 allInstructions e [] = true
 allInstructions e (k ∷ ks) = isInstruction e k && allInstructions e ks
 
--- the bytes of lines, or the fault and the column of the first line that has one
+-- the bytes of lines, or the first line that has a fault, its number counted from 1, with the fault and its column
 pub data Lines : Type 0 where
   bytes : List ℕ → Lines
-  fault : Fault → ℕ → Lines
+  fault : ℕ → Fault → ℕ → Lines
 
 abbrev pub afterBytes : List ℕ → Lines → Lines
 afterBytes l (bytes m) = bytes (l ++ m)
-afterBytes l (fault f c) = fault f c
+afterBytes l (fault n f c) = fault n f c
 
-abbrev pub thenLines : Line → (List ℕ → Lines) → Lines
-thenLines Nothing f = f []
-thenLines (Instruction op count v) f = f (lineBytes (Instruction op count v))
-thenLines (Wrong w c) f = fault w c
+abbrev pub thenLines : ℕ → Line → (List ℕ → Lines) → Lines
+thenLines n Nothing f = f []
+thenLines n (Instruction op count v) f = f (lineBytes (Instruction op count v))
+thenLines n (Wrong w c) f = fault n w c
 
--- the lines of an expression from offset i on
-unfoldable pub readLines : ℕ → List (List ℕ) → Lines
-readLines i [] = bytes []
-readLines i (l ∷ ls) = thenLines (readLine i l) (λ b. afterBytes b (readLines (i + length b) ls))
+-- the lines of an expression from line n and offset i on
+unfoldable pub readLines : ℕ → ℕ → List (List ℕ) → Lines
+readLines n i [] = bytes []
+readLines n i (l ∷ ls) = thenLines n (meant i l) (λ b. afterBytes b (readLines (n + 1) (i + length b) ls))
 
 -- ---- as one text: lines joined, and a text divided into lines, each with its line feed
 abbrev pub joined : List (List ℕ) → List ℕ
@@ -55,8 +57,14 @@ unfoldable pub linesOf : List ℕ → List (List ℕ)
 linesOf [] = []
 linesOf (c ∷ t) = cond (eqb c 10) ((c ∷ []) ∷ linesOf t) (onto c (linesOf t))
 
+-- the line of the text t that begins at i ends before j
+pub record IsLine (t : List ℕ) (i j : ℕ) : Type 0 where
+  pub more : i < j
+  pub within : j ≤ length t
+  pub first-is : linesOf (drop i t) ≡ take (j - i) (drop i t) ∷ linesOf (drop j t)
+
 unfoldable pub listingText : List ℕ → List ℕ
 listingText e = joined (listing e)
 
 unfoldable pub readText : List ℕ → Lines
-readText t = readLines 0 (linesOf t)
+readText t = readLines 1 0 (linesOf t)

@@ -1,5 +1,6 @@
-// Listings of expressions: an instruction as GDB's `maint agent` prints it, and such a line read back.
+// Listings of expressions: an instruction as GDB's `maint agent` prints it, and such lines read back.
 mod names;
 mod numbers;
 pub mod reading;
+pub mod whole;
 pub mod writing;

@@ -14,9 +14,7 @@ use Rattle.isa.specs.Decode.{classAt, kindAt, operand, needed, left, heightAfte
 use Rattle.isa.specs.Walk.{After, target, onward}
 use Rattle.isa.proofs.Promises.{needed-class, left-class}
 use Rattle.memory.specs.Fetch.{readable, restOf}
-use Rattle.memory.specs.FirstZero.{searched}
-use Rattle.memory.specs.declared.Search.{Search}
-use Rattle.memory.specs.declared.Search.the-variants.{Found, Reached, Ended}
+use Rattle.memory.specs.FirstZero.{Sought, up-to-zero, all-of-size, cut-short, searched}
 use Rattle.frames.specs.Record.{Record, encode}
 use Rattle.frames.specs.Trailer.{trailerSize}
 use Rattle.machine.specs.Fed.{Fed}
@@ -49,11 +47,11 @@ module _ (m : Fed) (free address size : ℕ) where
       by-test MadeRight (ltb 65535 size) _ _ (λ _. (omega arith, omega arith)) λ _.
       by-test MadeRight (readable (m .image-first) (m .image) (m .work-first) (m .work) address size) _ _ (λ _. fitting-right free _) (λ _. (omega arith, omega arith))
 
-  zero-right : (rest : List ℕ) (o : Search) → MadeRight (zeroMade free address size rest o)
+  zero-right : (rest : List ℕ) (o : Sought) → MadeRight (zeroMade free address size rest o)
   unfolding MadeRight
-  zero-right rest (Found n) = fitting-right free _
-  zero-right rest (Reached n) = by-test MadeRight (leb size 65535) _ _ (λ _. fitting-right free _) (λ _. (omega arith, omega arith))
-  zero-right rest (Ended n) = (omega arith, omega arith)
+  zero-right rest (up-to-zero n) = fitting-right free _
+  zero-right rest (all-of-size n) = by-test MadeRight (leb size 65535) _ _ (λ _. fitting-right free _) (λ _. (omega arith, omega arith))
+  zero-right rest (cut-short n) = (omega arith, omega arith)
 
   to-zero-right : MadeRight (toZeroMade m free address size)
   unfolding MadeRight toZeroMade

@@ -12,9 +12,7 @@ use Rattle.isa.specs.Classes.{Class, binary, trace, tracenz, unary, ref, trace-
 use Rattle.isa.specs.Decode.{classAt, kindAt, operand}
 use Rattle.memory.specs.Spans.{spansRefusal}
 use Rattle.memory.specs.Fetch.{readable, fetchRefusal, fetched, restOf}
-use Rattle.memory.specs.FirstZero.{searched}
-use Rattle.memory.specs.declared.Search.{Search}
-use Rattle.memory.specs.declared.Search.the-variants.{Found, Reached, Ended}
+use Rattle.memory.specs.FirstZero.{Sought, up-to-zero, all-of-size, cut-short, searched}
 use Rattle.memory.proofs.Promises.{readable-means, fetch-0, fetched-length, fetched-part, rest-readable, rest-fetched, search-found, search-reached}
 use Rattle.frames.specs.Record.{Record, memory, variable, encode, encodeAll}
 use Rattle.frames.specs.Trailer.{trailerSize}
@@ -115,16 +113,16 @@ module _ (m : Fed) (fine : spans m ≡ 0) (P : Record → Type 0) (of-memory : O
         (λ _. tt)
 
     module _ (some : 1 ≤ size) where
-      zero-all : (o : Search) → searched (min size 65535) (rest m address) ≡ o → MadeAll P (zeroMade free address size (rest m address) o)
+      zero-all : (o : Sought) → searched (min size 65535) (rest m address) ≡ o → MadeAll P (zeroMade free address size (rest m address) o)
       unfolding MadeAll
-      zero-all (Found n) p =
+      zero-all (up-to-zero n) p =
           let w = search-found (min size 65535) (rest m address) p in
           fitting-all P free _ (rest-has address n (w .some) (omega (arith, w .in-size)) (w .in-bytes))
-      zero-all (Reached n) p =
+      zero-all (all-of-size n) p =
           let w = search-reached (min size 65535) (rest m address) p in
           by-test (MadeAll P) (leb size 65535) _ _
           (λ _. fitting-all P free _ (rest-has address n (omega (arith, w .all)) (omega (arith, w .all)) (omega (arith, w .all, w .exist)))) (λ _. tt)
-      zero-all (Ended n) p = tt
+      zero-all (cut-short n) p = tt
 
     to-zero-all : MadeAll P (toZeroMade m free address size)
     unfolding MadeAll toZeroMade

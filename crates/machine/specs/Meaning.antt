@@ -8,7 +8,7 @@ use Rattle.encoding.specs.LittleEndian.{littleEndian}
 use Rattle.isa.specs.Classes.{Class, binary, trace, tracenz, unary, ref, trace-quick, ext, zero-ext, setv, if-goto, goto, constant, reg, getv, tracev, end, dup, pop, swap, pick, rot, unsupported, unknown, kind-goto, kind-if-goto}
 use Rattle.isa.specs.Decode.{classAt, kindAt, next, operand, needed}
 use Rattle.arithmetic.specs.Words.{ext as extended, zeroExt as zeroExtended}
-use Rattle.memory.specs.Fetch.{readable, fetched}
+use Rattle.memory.specs.Fetch.{not-readable, readable, fetched}
 use Rattle.frames.specs.Record.{Record, variable}
 use Rattle.frames.specs.Trailer.{trailerSize}
 use Rattle.machine.specs.Fed.{Fed}
@@ -29,12 +29,12 @@ recording cells (refuses n) = faults n
 unfoldable pub binaryDone : ℕ → ℕ → ℕ → Done
 binaryDone op a b = cond (zeroDivisor op b) (faults 17) (leaves (binaryWord op a b ∷ []) [])
 
--- "ref reads little-endian"; 19: "range not readable"
+-- "ref reads little-endian"
 unfoldable pub refDone : Fed → ℕ → ℕ → Done
 refDone m n address =
     cond (readable (m .image-first) (m .image) (m .work-first) (m .work) address n)
     (leaves (littleEndian (fetched (m .image-first) (m .image) (m .work-first) (m .work) address n) ∷ []) [])
-    (faults 19)
+    (faults not-readable)
 
 -- 18: "register number not lent"
 unfoldable pub regDone : Fed → ℕ → Done

@@ -29,11 +29,11 @@ abbrev pub afterVerdict : Fed → List ℕ → List ℕ → ℕ → ℕ → Verd
 afterVerdict m v buffer used allowance (accepted n g l) = afterInputs m v buffer used allowance (inputRefusal m buffer used)
 afterVerdict m v buffer used allowance (refused r k) = stopped r k 0 []
 
--- "A refusal tried before stepping (here 1 to 15) ends it, with 0 steps and no records." The runner verifies first, then checks 12 to 15, then steps.
+-- "A refusal tried before stepping (here 1 to 15) ends it, with 0 steps and no records." "The runner verifies first, then checks 12 to 15, then steps."
 unfoldable pub ended : Fed → List ℕ → List ℕ → ℕ → ℕ → Ended
 ended m v buffer used allowance = afterVerdict m v buffer used allowance (verdict (m .expression))
 
--- "1,024 if none is given"
+-- "An entry without an allowance uses 1,024."
 abbrev pub defaultAllowance : ℕ
 defaultAllowance = 1024
 

@@ -9,9 +9,7 @@ use lib.Dec.{leb}
 use lib.ListN.{length, take, getD}
 use Rattle.memory.specs.Spans.{InSpan, shareAddress, spansRefusal, FineSpans}
 use Rattle.memory.specs.Fetch.{holdsRange, readable, fetchRefusal, fetched, targetByte, restOf, Readable, PartOf}
-use Rattle.memory.specs.FirstZero.{searched, FirstZero, NoneInSize, EndedBefore, Says}
-use Rattle.memory.specs.declared.Search.{Search}
-use Rattle.memory.specs.declared.Search.the-variants.{Found, Reached, Ended}
+use Rattle.memory.specs.FirstZero.{Sought, up-to-zero, all-of-size, cut-short, searched, FirstZero, NoneInSize, EndedBefore, Says}
 use Rattle.memory.proofs.Testing as testing
 use Rattle.memory.proofs.Spanning as spanning
 use Rattle.memory.proofs.Fetching as fetching
@@ -109,17 +107,17 @@ module _ (f : ℕ) (image : List ℕ) (g : ℕ) (work : List ℕ) where
 -- ---- the search for the first zero byte among the first `size` bytes of l
 module _ (size : ℕ) (l : List ℕ) where
   -- found: byte n - 1 is zero and no earlier one is; n is at most the size and at most the number of bytes
-  pub search-found : {n : ℕ} → searched size l ≡ Found n → FirstZero size l n
+  pub search-found : {n : ℕ} → searched size l ≡ up-to-zero n → FirstZero size l n
   search-found p = rw p at (searching.search-says size l)
 
   -- size reached: the first `size` bytes exist and none is zero
-  pub search-reached : {n : ℕ} → searched size l ≡ Reached n → NoneInSize size l n
+  pub search-reached : {n : ℕ} → searched size l ≡ all-of-size n → NoneInSize size l n
   search-reached p = rw p at (searching.search-says size l)
 
   -- bytes ended: fewer than `size` bytes exist and none is zero
-  pub search-ended : {n : ℕ} → searched size l ≡ Ended n → EndedBefore size l n
+  pub search-ended : {n : ℕ} → searched size l ≡ cut-short n → EndedBefore size l n
   search-ended p = rw p at (searching.search-says size l)
 
   -- and the other way: an outcome that says what is so is the search's
-  pub says-search : (s : Search) → Says size l s → s ≡ searched size l
+  pub says-search : (s : Sought) → Says size l s → s ≡ searched size l
   says-search = searching.says-search size l

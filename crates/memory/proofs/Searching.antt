@@ -9,9 +9,7 @@ use lib.Dec.{eqb}
 use lib.ListN.{length, getD}
 use borrow.Author.Tests.{eqb-true, eqb-false}
 use Rattle.encoding.proofs.Promises.{cases, no-true}
-use Rattle.memory.specs.FirstZero.{past, searched, NoZero, FirstZero, Looked, Passed, Says}
-use Rattle.memory.specs.declared.Search.{Search}
-use Rattle.memory.specs.declared.Search.the-variants.{Found, Reached, Ended}
+use Rattle.memory.specs.FirstZero.{Sought, up-to-zero, all-of-size, cut-short, past, searched, NoZero, FirstZero, Looked, Passed, Says}
 use Rattle.memory.proofs.Choosing.{cond-elim}
 
 -- ---- what the outcome says
@@ -19,8 +17,8 @@ none-cons : (b : ℕ) (l : List ℕ) (n : ℕ) → b ≢ 0 → NoZero n l → No
 none-cons b l n z h zero s = z
 none-cons b l n z h (suc i) s = h i (omega arith)
 
-says-past : (b : ℕ) (l : List ℕ) (size : ℕ) → b ≢ 0 → (s : Search) → Says size l s → Says (suc size) (b ∷ l) (past 1 s)
-says-past b l size z (Found n) h =
+says-past : (b : ℕ) (l : List ℕ) (size : ℕ) → b ≢ 0 → (s : Sought) → Says size l s → Says (suc size) (b ∷ l) (past 1 s)
+says-past b l size z (up-to-zero n) h =
     let e : 1 + n - 1 ≡ suc (n - 1) = omega (arith, h .some) in
     record {
       some = omega arith;
@@ -29,12 +27,12 @@ says-past b l size z (Found n) h =
       in-size = omega (arith, h .in-size);
       in-bytes = omega (arith, h .in-bytes);
     }
-says-past b l size z (Reached n) h = record {
+says-past b l size z (all-of-size n) h = record {
   all = omega (arith, h .all);
   exist = omega (arith, h .exist);
   none = none-cons b l size z (h .none);
 }
-says-past b l size z (Ended n) h = record {
+says-past b l size z (cut-short n) h = record {
   all = omega (arith, h .all);
   fewer = omega (arith, h .fewer);
   none = none-cons b l (length l) z (h .none);
@@ -45,7 +43,7 @@ unfolding searched
 search-says zero l = record { all = refl; exist = omega arith; none = λ i h. omega arith }
 search-says (suc size) [] = record { all = refl; fewer = omega arith; none = λ i h. omega arith }
 search-says (suc size) (b ∷ l) =
-    cond-elim (Says (suc size) (b ∷ l)) (eqb b 0) (Found 1) (past 1 (searched size l))
+    cond-elim (Says (suc size) (b ∷ l)) (eqb b 0) (up-to-zero 1) (past 1 (searched size l))
     (λ e. record { some = omega arith; zero-there = eqb-true b 0 e; none-before = λ i h. omega arith; in-size = omega arith; in-bytes = omega arith })
     (λ e. says-past b l size (eqb-false b 0 e) (searched size l) (search-says size l))
 
@@ -54,18 +52,18 @@ module _ (size : ℕ) (l : List ℕ) where
   found-most : {n m : ℕ} → FirstZero size l n → FirstZero size l m → n ≤ m
   found-most {n} {m} p q = cases m n (λ h. absurd (p .none-before (m - 1) (omega (arith, q .some)) (q .zero-there))) (λ h. h)
 
-  one-says : (s t : Search) → Says size l s → Says size l t → s ≡ t
-  one-says (Found n) (Found m) p q = ap Found (omega (arith, found-most p q, found-most q p))
-  one-says (Found n) (Reached m) p q = absurd (q .none (n - 1) (omega (arith, p .some, p .in-size)) (p .zero-there))
-  one-says (Found n) (Ended m) p q = absurd (q .none (n - 1) (omega (arith, p .some, p .in-bytes)) (p .zero-there))
-  one-says (Reached n) (Found m) p q = absurd (p .none (m - 1) (omega (arith, q .some, q .in-size)) (q .zero-there))
-  one-says (Reached n) (Reached m) p q = ap Reached (omega (arith, p .all, q .all))
-  one-says (Reached n) (Ended m) p q = absurd (omega (arith, p .exist, q .fewer))
-  one-says (Ended n) (Found m) p q = absurd (p .none (m - 1) (omega (arith, q .some, q .in-bytes)) (q .zero-there))
-  one-says (Ended n) (Reached m) p q = absurd (omega (arith, q .exist, p .fewer))
-  one-says (Ended n) (Ended m) p q = ap Ended (omega (arith, p .all, q .all))
+  one-says : (s t : Sought) → Says size l s → Says size l t → s ≡ t
+  one-says (up-to-zero n) (up-to-zero m) p q = ap up-to-zero (omega (arith, found-most p q, found-most q p))
+  one-says (up-to-zero n) (all-of-size m) p q = absurd (q .none (n - 1) (omega (arith, p .some, p .in-size)) (p .zero-there))
+  one-says (up-to-zero n) (cut-short m) p q = absurd (q .none (n - 1) (omega (arith, p .some, p .in-bytes)) (p .zero-there))
+  one-says (all-of-size n) (up-to-zero m) p q = absurd (p .none (m - 1) (omega (arith, q .some, q .in-size)) (q .zero-there))
+  one-says (all-of-size n) (all-of-size m) p q = ap all-of-size (omega (arith, p .all, q .all))
+  one-says (all-of-size n) (cut-short m) p q = absurd (omega (arith, p .exist, q .fewer))
+  one-says (cut-short n) (up-to-zero m) p q = absurd (p .none (m - 1) (omega (arith, q .some, q .in-bytes)) (q .zero-there))
+  one-says (cut-short n) (all-of-size m) p q = absurd (omega (arith, q .exist, p .fewer))
+  one-says (cut-short n) (cut-short m) p q = ap cut-short (omega (arith, p .all, q .all))
 
-  pub says-search : (s : Search) → Says size l s → s ≡ searched size l
+  pub says-search : (s : Sought) → Says size l s → s ≡ searched size l
   says-search s h = one-says s (searched size l) h (search-says size l)
 
 -- ---- bytes looked at, one after the other
@@ -98,13 +96,13 @@ module _ {l : List ℕ} {n k : ℕ} (p : Passed l n k) where
 
   -- the search stops: k bytes are passed, n is the limit
   module _ (size : ℕ) where
-    pub passed-size : n ≡ size → n ≤ length l → n ≤ k → Reached n ≡ searched size l
-    passed-size e i h = says-search size l (Reached n) (record { all = e; exist = omega arith; none = λ i s. p .none i (omega arith) })
+    pub passed-size : n ≡ size → n ≤ length l → n ≤ k → all-of-size n ≡ searched size l
+    passed-size e i h = says-search size l (all-of-size n) (record { all = e; exist = omega arith; none = λ i s. p .none i (omega arith) })
 
-    pub passed-end : n < size → n ≡ length l → n ≤ k → Ended n ≡ searched size l
-    passed-end s e h = says-search size l (Ended n) (record { all = e; fewer = omega arith; none = λ i s. p .none i (omega arith) })
+    pub passed-end : n < size → n ≡ length l → n ≤ k → cut-short n ≡ searched size l
+    passed-end s e h = says-search size l (cut-short n) (record { all = e; fewer = omega arith; none = λ i s. p .none i (omega arith) })
 
-    pub passed-zero : k < size → k < length l → getD l k 0 ≡ 0 → Found (k + 1) ≡ searched size l
+    pub passed-zero : k < size → k < length l → getD l k 0 ≡ 0 → up-to-zero (k + 1) ≡ searched size l
     passed-zero s i z =
         let e : k + 1 - 1 ≡ k = omega arith in
-        says-search size l (Found (k + 1)) (record { some = omega arith; zero-there = rw e z; none-before = λ i s. p .none i (omega arith); in-size = omega arith; in-bytes = omega arith })
+        says-search size l (up-to-zero (k + 1)) (record { some = omega arith; zero-there = rw e z; none-before = λ i s. p .none i (omega arith); in-size = omega arith; in-bytes = omega arith })

@@ -17,15 +17,19 @@ holdsRange f n a k = leb f a && leb (a + k) (f + n)
 unfoldable pub readable : ℕ → List ℕ → ℕ → List ℕ → ℕ → ℕ → Bool
 readable f image g work a k = holdsRange f (length image) a k || holdsRange g (length work) a k
 
+-- 19: "range not readable"
+abbrev pub not-readable : ℕ
+not-readable = 19
+
 -- "12 and 13 come first"; then 19 for a range of one byte or more that is not readable
 unfoldable pub fetchRefusal : ℕ → List ℕ → ℕ → List ℕ → ℕ → ℕ → ℕ
-fetchRefusal f image g work a k = tried (spanTests f image g work ++ ((ltb 0 k && not (readable f image g work a k), 19) ∷ []))
+fetchRefusal f image g work a k = tried (spanTests f image g work ++ ((ltb 0 k && not (readable f image g work a k), not-readable) ∷ []))
 
 -- what `of` makes of "whichever span holds them", the k bytes at a, and `none` where neither does
 abbrev pub whichever : {A : Type 0} → ℕ → List ℕ → ℕ → List ℕ → ℕ → ℕ → (ℕ → List ℕ → A) → A → A
 whichever f image g work a k of none = cond (holdsRange f (length image) a k) (of f image) (cond (holdsRange g (length work) a k) (of g work) none)
 
--- the bytes lent: those of the range; "a refused fetch lends an empty part"
+-- the bytes lent: those of the range; "A refused fetch .. lends an empty part too"
 unfoldable pub fetched : ℕ → List ℕ → ℕ → List ℕ → ℕ → ℕ → List ℕ
 fetched f image g work a k =
     cond (eqb (fetchRefusal f image g work a k) 0) (whichever f image g work a k (λ first bytes. take k (drop (a - first) bytes)) []) []

@@ -10,17 +10,29 @@ use lib.Dec.{eqb}
 use Rattle.memory.specs.declared.Search.{Search}
 use Rattle.memory.specs.declared.Search.the-variants.{Found, Reached, Ended}
 
+-- how a search ends, and after how many bytes: "up to and with the first zero byte"; at "SIZE bytes", none of them zero; or where the bytes end before that
+pub data Sought : Type 0 where
+  up-to-zero : ℕ → Sought
+  all-of-size : ℕ → Sought
+  cut-short : ℕ → Sought
+
+-- the same for each case of the code's answer
+abbrev pub soughtOf : Search → Sought
+soughtOf (Found n) = up-to-zero n
+soughtOf (Reached n) = all-of-size n
+soughtOf (Ended n) = cut-short n
+
 -- the outcome of a search that began k bytes further on
-abbrev pub past : ℕ → Search → Search
-past k (Found n) = Found (k + n)
-past k (Reached n) = Reached (k + n)
-past k (Ended n) = Ended (k + n)
+abbrev pub past : ℕ → Sought → Sought
+past k (up-to-zero n) = up-to-zero (k + n)
+past k (all-of-size n) = all-of-size (k + n)
+past k (cut-short n) = cut-short (k + n)
 
 -- the search among the first `size` bytes of a list
-unfoldable pub searched : ℕ → List ℕ → Search
-searched zero l = Reached 0
-searched (suc size) [] = Ended 0
-searched (suc size) (b ∷ l) = cond (eqb b 0) (Found 1) (past 1 (searched size l))
+unfoldable pub searched : ℕ → List ℕ → Sought
+searched zero l = all-of-size 0
+searched (suc size) [] = cut-short 0
+searched (suc size) (b ∷ l) = cond (eqb b 0) (up-to-zero 1) (past 1 (searched size l))
 
 -- none of the first n bytes is zero
 abbrev pub NoZero : ℕ → List ℕ → Type 0
@@ -57,7 +69,7 @@ pub record EndedBefore (size : ℕ) (l : List ℕ) (n : ℕ) : Type 0 where
   pub none : NoZero (length l) l
 
 -- what an outcome says of the bytes
-abbrev pub Says : ℕ → List ℕ → Search → Type 0
-Says size l (Found n) = FirstZero size l n
-Says size l (Reached n) = NoneInSize size l n
-Says size l (Ended n) = EndedBefore size l n
+abbrev pub Says : ℕ → List ℕ → Sought → Type 0
+Says size l (up-to-zero n) = FirstZero size l n
+Says size l (all-of-size n) = NoneInSize size l n
+Says size l (cut-short n) = EndedBefore size l n

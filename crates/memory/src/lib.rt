@@ -6,7 +6,7 @@ ghost use Prim.Native.Nat.{_+_, _-_, _≤_, min};
 ghost use lib.ListN.{length, take, drop};
 ghost use Rattle.memory.specs.Spans.{endsPast, shareAddress, spansRefusal};
 ghost use Rattle.memory.specs.Fetch.{holdsRange, fetchRefusal, fetched, restOf};
-ghost use Rattle.memory.specs.FirstZero.{searched, Looked, Passed};
+ghost use Rattle.memory.specs.FirstZero.{soughtOf, searched, Looked, Passed};
 
 // Whether first + len exceeds 2^64.
 fn ends_past(first: u64, len: u64) -> bool
@@ -201,7 +201,7 @@ fn before_zero(bytes: &[u8], limit: usize) -> usize
 
 // Searches the first `size` bytes: by blocks as far as no zero comes, then byte by byte. Both ends are one limit.
 pub fn find_zero(bytes: &[u8], size: usize) -> Search
-    ensures { λ r. ⌜ r ≡ searched size (now (bytes .entry)) ⌝ }
+    ensures { λ r. ⌜ soughtOf r ≡ searched size (now (bytes .entry)) ⌝ }
 {
     let limit = smaller(size, bytes.len());
     let mut passed = before_zero(bytes, limit);

@@ -27,7 +27,7 @@ recordRead tracepoint start o i [] = refusedRead 25 start
 recordRead tracepoint start o zero (r ∷ rs) = told tracepoint o r
 recordRead tracepoint start o (suc i) (r ∷ rs) = recordRead tracepoint start (o + size r) i rs
 
--- "Then the chosen frame must divide into records exactly: else 23 at the first bad record."
+-- "Then the chosen frame must divide into records exactly, ..: else 23 at the first bad record."
 abbrev pub readDivided : ℕ → ℕ → ℕ → Division → Read
 readDivided tracepoint start i (records rs) = recordRead tracepoint start start i rs
 readDivided tracepoint start i (brokenAt k) = refusedRead 23 (start + k)

@@ -4,7 +4,7 @@ use mathlib.Core.Bool.{Bool, true, false, _&&_}
 use mathlib.Core.List.{List, _++_}
 use mathlib.Core.Path.{_≡_}
 use lib.Dec.{T, eqb}
-use lib.ListN.{length}
+use lib.ListN.{length, getD}
 use Rattle.report.specs.Hex.{isBlank}
 use Rattle.words.specs.Words.{leading, isInWord, Word, firstWord, IsAt, sameBytes}
 use Rattle.words.specs.Numbers.{isDigit, valueFrom, limited, numberIn}
@@ -15,7 +15,8 @@ use Rattle.words.proofs.Wording as wording
 use Rattle.words.proofs.Same as same
 use Rattle.words.proofs.Numbering as numbering
 -- `all p l`: every character of l passes the test p. `stops p l`: the first does not, or there is none.
-pub use Rattle.words.proofs.Leading.{all, stops}
+-- `Counting p s n`: n characters of s pass, and the rest is to be counted. `Counted p s n`: n is the answer.
+pub use Rattle.words.proofs.Leading.{all, stops, Counting, Counted}
 
 -- ---- texts that pass a test
 pub truth : (b : Bool) → T b → b ≡ true
@@ -30,6 +31,20 @@ all-append = leads.all-append
 -- a text that passes, and goes on with one that does not, has as many leading characters as it is long
 pub all-leading : (p : ℕ → Bool) (a r : List ℕ) → T (all p a) → T (stops p r) → leading p (a ++ r) ≡ length a
 all-leading = leads.all-leading
+
+-- a loop that counts them: its start, a turn, and the two ways out
+pub counting-start : (p : ℕ → Bool) (s : List ℕ) → Counting p s 0
+counting-start = leads.counting-start
+
+module _ {p : ℕ → Bool} {s : List ℕ} {n : ℕ} (c : Counting p s n) where
+  pub counting-end : length s ≤ n → Counted p s n
+  counting-end = leads.counting-end c
+
+  pub counting-more : n < length s → p (getD s n 0) ≡ true → Counting p s (n + 1)
+  counting-more = leads.counting-more c
+
+  pub counting-stop : n < length s → p (getD s n 0) ≡ false → Counted p s n
+  counting-stop = leads.counting-stop c
 
 -- ---- words
 -- blanks, a word, and what does not go on with it: the word is the first

@@ -12,8 +12,8 @@ open-read-requires c κs = search needs
 returns : tie.Need-returns
 returns c = λ m q. let z : _≡_ {A = ℕ} 0 1 = cc in omega arith
 
-read-all-requires : tie.Need-read-all-requires
-read-all-requires c κs = search needs
+load-rest-requires : tie.Need-load-rest-requires
+load-rest-requires c κs = search needs
 
 close-requires : tie.Need-close-requires
 close-requires c κs = search needs
@@ -27,4 +27,4 @@ returns-2 c = search needs
 pub load-spec : {M : Type 1} → statement M
 load-spec =
     tie.close
-    (tie.spec open-read-requires returns read-all-requires close-requires same-length returns-2)
+    (tie.spec open-read-requires returns load-rest-requires close-requires same-length returns-2)

@@ -23,11 +23,11 @@ large-buffer-requires-2 c κs = search needs
 large-buffer-requires-3 : tie.Need-large-buffer-requires-3 Inv-loop μ-loop
 large-buffer-requires-3 c κs = search needs
 
-span-buffer-requires : tie.Need-span-buffer-requires Inv-loop μ-loop
-span-buffer-requires c κs = search needs
+mebibyte-buffer-requires : tie.Need-mebibyte-buffer-requires Inv-loop μ-loop
+mebibyte-buffer-requires c κs = search needs
 
-span-buffer-requires-2 : tie.Need-span-buffer-requires-2 Inv-loop μ-loop
-span-buffer-requires-2 c κs = search needs
+mebibyte-buffer-requires-2 : tie.Need-mebibyte-buffer-requires-2 Inv-loop μ-loop
+mebibyte-buffer-requires-2 c κs = search needs
 
 start-requires : tie.Need-start-requires Inv-loop μ-loop
 start-requires c κs = search needs
@@ -100,8 +100,8 @@ run-lines-spec =
     μ-loop
     large-buffer-requires
     large-buffer-requires-2
-    span-buffer-requires
-    span-buffer-requires-2
+    mebibyte-buffer-requires
+    mebibyte-buffer-requires-2
     large-buffer-requires-3
     start-requires
     start-of-requires

@@ -4,8 +4,8 @@ use native.Mathlib.Omega.{arith}
 use Prim.Native.Nat.{ℕ, _≤_, _-_}
 use mathlib.Core.Path.{_≡_}
 use lib.ListN.{length}
-use Rattle.files.proofs.read_all.Statement.{statement}
-use Rattle.files.proofs.read_all.Tie as tie
+use Rattle.files.proofs.load_rest.Statement.{statement}
+use Rattle.files.proofs.load_rest.Tie as tie
 
 abbrev Inv-loop : tie.InvT-loop
 Inv-loop fd bytes₀ n₀ bytes n = (n ≤ length bytes) × (length bytes ≡ length bytes₀)
@@ -76,8 +76,8 @@ same-length-4 c = search needs
 returns-4 : tie.Need-returns-4 Inv-loop μ-loop
 returns-4 c = λ m q. let same : c .before .before .before .loop .n ≡ m = cc in omega arith
 
-pub read-all-spec : {M : Type 1} → statement M
-read-all-spec =
+pub load-rest-spec : {M : Type 1} → statement M
+load-rest-spec =
     tie.close
     (tie.spec
     Inv-loop
