@@ -89,7 +89,7 @@ fn put_through(out: &mut [u8], at: usize, bytes: &[u8])
 
 // The same in two moves of `width` bytes, which may overlap: where `width` is a literal, a move is one or two machine words.
 fn put_two(out: &mut [u8], at: usize, bytes: &[u8], width: usize)
-    requires { ⌜ width ≤ 64 ⌝ ∗ ⌜ width ≤ length (now bytes) ⌝ ∗ ⌜ length (now bytes) ≤ width + width ⌝ ∗ ⌜ at + length (now bytes) ≤ length (now out) ⌝ }
+    requires { ⌜ width ≤ 16 ⌝ ∗ ⌜ width ≤ length (now bytes) ⌝ ∗ ⌜ length (now bytes) ≤ width + width ⌝ ∗ ⌜ at + length (now bytes) ≤ length (now out) ⌝ }
     ensures { λ _. ⌜ now (out .exit) ≡ writtenAt (now (out .entry)) at (now (bytes .entry)) ⌝ }
 {
     let last = bytes.len() - width;
@@ -97,22 +97,24 @@ fn put_two(out: &mut [u8], at: usize, bytes: &[u8], width: usize)
     put_through(out, at + last, &bytes[last..]);
 }
 
-// Writes a copy of `bytes` from `at` on.
+// Writes a copy of `bytes` from `at` on. A few bytes are moved in place, which costs less than a call.
 pub fn put_bytes(out: &mut [u8], at: usize, bytes: &[u8])
     requires { ⌜ at + length (now bytes) ≤ length (now out) ⌝ }
     ensures { λ _. ⌜ now (out .exit) ≡ writtenAt (now (out .entry)) at (now (bytes .entry)) ⌝ }
 {
     let count = bytes.len();
-    if count < 8 {
-        put_each(out, at, bytes);
-    } else if count <= 16 {
-        put_two(out, at, bytes, 8);
+    if count <= 8 {
+        if count < 4 {
+            put_each(out, at, bytes);
+        } else {
+            put_two(out, at, bytes, 4);
+        }
     } else if count <= 32 {
-        put_two(out, at, bytes, 16);
-    } else if count <= 64 {
-        put_two(out, at, bytes, 32);
-    } else if count <= 128 {
-        put_two(out, at, bytes, 64);
+        if count <= 16 {
+            put_two(out, at, bytes, 8);
+        } else {
+            put_two(out, at, bytes, 16);
+        }
     } else if count <= 65536 {
         put_through(out, at, bytes);
     } else {
