@@ -1,4 +1,4 @@
--- The loops of `put_little`, `put_each` and `put_blocks`, over every count.
+-- The loops of `put_little` and `put_each`, over every count, and the moves of `put_two`.
 use mathlib.Core.List.{List}
 use mathlib.Core.Path.{_≡_, refl, ap, sym, _∙_}
 use Prim.Native.Nat.{ℕ, _+_, _-_, _/_, _%_, _^_, _≤_, _<_}
@@ -55,18 +55,6 @@ module _ {l : List ℕ} {a : ℕ} {bytes m : List ℕ} {k : ℕ} (p : PuttingByt
   pub bytes-end : length bytes ≤ k → m ≡ writtenAt l a bytes
   bytes-end h = p .holds ∙ ap (λ r. writtenAt l a r) (take-all k bytes h)
 
-  -- a block of w bytes
-  pub block-turn : (w : ℕ) → k + w ≤ length bytes → PuttingBytes l a bytes (writtenAt m (a + k) (take w (drop k bytes))) (k + w)
-  block-turn w h = record {
-    within = h;
-    holds =
-        ap (λ (r : List ℕ). writtenAt r (a + k) (take w (drop k bytes))) (p .holds)
-        ∙ ap (λ (i : ℕ). writtenAt (writtenAt l a (take k bytes)) (a + i) (take w (drop k bytes))) (sym (length-take-le k bytes (p .within)))
-        ∙ written-more l a (take k bytes) (take w (drop k bytes))
-        ∙ ap (λ (r : List ℕ). writtenAt l a r) (sym (take-add k w bytes));
-    same = written-length m (a + k) (take w (drop k bytes)) ∙ p .same;
-  }
-
   -- the last w bytes, from j on, which may overlap those that are copied
   pub block-end : (j w : ℕ) {o : List ℕ} → o ≡ writtenAt m (a + j) (take w (drop j bytes)) → j + w ≡ length bytes → j ≤ k → o ≡ writtenAt l a bytes
   block-end j w q e h =
@@ -75,15 +63,18 @@ module _ {l : List ℕ} {a : ℕ} {bytes m : List ℕ} {k : ℕ} (p : PuttingByt
       ∙ ap (λ (r : List ℕ). writtenAt r (a + j) (drop j bytes)) (p .holds)
       ∙ written-over l a bytes j k h (p .within)
 
--- ---- w bytes that go through an array
-module _ (bytes : List ℕ) (from w : ℕ) (h : from + w ≤ length bytes) where
-  pub part-size : length (take w (drop from bytes)) ≡ w
-  part-size = length-take-le w (drop from bytes) (omega (arith, length-drop from bytes))
+-- ---- the first w bytes, and the last w
+pub two-moves : (l : List ℕ) (a : ℕ) (bytes : List ℕ) (w : ℕ) {m o : List ℕ} → w ≤ length bytes → length bytes ≤ w + w
+    → m ≡ writtenAt l a (take (w - 0) (drop 0 bytes))
+    → o ≡ writtenAt m (a + (length bytes - w)) (take (length bytes - (length bytes - w)) (drop (length bytes - w) bytes)) → o ≡ writtenAt l a bytes
+two-moves l a bytes w {m} h i p q =
+    let first : PuttingBytes l a bytes m w = record {
+      within = h;
+      holds = let e : w - 0 ≡ w = omega arith in rw e at p;
+      same = ap length p ∙ written-length l a (take (w - 0) (drop 0 bytes));
+    } in
+    block-end first (length bytes - w) (length bytes - (length bytes - w)) q (omega arith) (omega arith)
 
-  pub part-through : (array : List ℕ) {m : List ℕ} → w ≤ length array → m ≡ writtenAt array 0 (take (from + w - from) (drop from bytes)) → take w m ≡ take w (drop from bytes)
-  part-through array {m} i q =
-      let part : List ℕ = take w (drop from bytes) in
-      let n : from + w - from ≡ w = omega arith in
-      ap (λ (l : List ℕ). take w l) (rw n at q)
-      ∙ ap (λ (n : ℕ). take n (writtenAt array 0 part)) (sym part-size)
-      ∙ written-read array 0 part (omega (arith, part-size))
+-- ---- bytes that go through an array
+pub through-array : (array bytes : List ℕ) {m : List ℕ} → m ≡ writtenAt array 0 bytes → length bytes ≤ length array → take (length bytes) m ≡ bytes
+through-array array bytes q h = ap (λ (l : List ℕ). take (length bytes) l) q ∙ written-read array 0 bytes (omega (arith, h))

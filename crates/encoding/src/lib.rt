@@ -68,45 +68,56 @@ fn put_each(out: &mut [u8], at: usize, bytes: &[u8])
     }
 }
 
-// Writes the `width` bytes from `from` on. They go through a local array, which overlaps neither slice. So they are all read before
-// the first is written, and where `width` is a literal the compiler moves them by one or two machine words.
-fn put_block(out: &mut [u8], at: usize, bytes: &[u8], from: usize, width: usize)
-    requires { ⌜ width ≤ 32 ⌝ ∗ ⌜ at + width ≤ length (now out) ⌝ ∗ ⌜ from + width ≤ length (now bytes) ⌝ }
-    ensures { λ _. ⌜ now (out .exit) ≡ writtenAt (now (out .entry)) at (take width (drop from (now (bytes .entry)))) ⌝ }
+// An array for bytes on their way from one slice to another.
+fn block() -> [u8; 65536]
+    ensures { λ r. ⌜ 65536 ≡ length r ⌝ }
 {
-    let mut block = [0u8; 32];
-    put_each(&mut block, 0, &bytes[from..from + width]);
-    put_each(out, at, &block[..width]);
+    [0; 65536]
 }
 
-// The same as `put_each`, in blocks of `width`. The last one may overlap the one before, so that no single bytes are left.
-fn put_blocks(out: &mut [u8], at: usize, bytes: &[u8], width: usize)
-    requires { ⌜ 0 < width ⌝ ∗ ⌜ width ≤ 32 ⌝ ∗ ⌜ width ≤ length (now bytes) ⌝ ∗ ⌜ at + length (now bytes) ≤ length (now out) ⌝ }
+// The same as `put_each`, through a local array, which overlaps neither slice: so all bytes are read before the first is written, and
+// the compiler makes one move of both copies, without the array.
+fn put_through(out: &mut [u8], at: usize, bytes: &[u8])
+    requires { ⌜ length (now bytes) ≤ 65536 ⌝ ∗ ⌜ at + length (now bytes) ≤ length (now out) ⌝ }
+    ensures { λ _. ⌜ now (out .exit) ≡ writtenAt (now (out .entry)) at (now (bytes .entry)) ⌝ }
+{
+    let mut block = block();
+    let count = bytes.len();
+    put_each(&mut block, 0, bytes);
+    put_each(out, at, &block[..count]);
+}
+
+// The same in two moves of `width` bytes, which may overlap: where `width` is a literal, a move is one or two machine words.
+fn put_two(out: &mut [u8], at: usize, bytes: &[u8], width: usize)
+    requires { ⌜ width ≤ 16 ⌝ ∗ ⌜ width ≤ length (now bytes) ⌝ ∗ ⌜ length (now bytes) ≤ width + width ⌝ ∗ ⌜ at + length (now bytes) ≤ length (now out) ⌝ }
     ensures { λ _. ⌜ now (out .exit) ≡ writtenAt (now (out .entry)) at (now (bytes .entry)) ⌝ }
 {
     let last = bytes.len() - width;
-    let mut moved = 0;
-    while moved < last {
-        put_block(out, at + moved, bytes, moved, width);
-        moved += width;
-    }
-    put_block(out, at + last, bytes, last, width);
+    put_through(out, at, &bytes[0..width]);
+    put_through(out, at + last, &bytes[last..]);
 }
 
-// Writes a copy of `bytes` from `at` on. Up to 32 bytes are two blocks at most. With a width more the compiler no longer places the
-// trace instructions inside the run's loop, and each step costs more.
+// Writes a copy of `bytes` from `at` on. A few bytes are moved in place, which costs less than a call.
 pub fn put_bytes(out: &mut [u8], at: usize, bytes: &[u8])
     requires { ⌜ at + length (now bytes) ≤ length (now out) ⌝ }
     ensures { λ _. ⌜ now (out .exit) ≡ writtenAt (now (out .entry)) at (now (bytes .entry)) ⌝ }
 {
     let count = bytes.len();
-    if count < 8 {
-        put_each(out, at, bytes);
-    } else if count <= 16 {
-        put_blocks(out, at, bytes, 8);
+    if count <= 8 {
+        if count < 4 {
+            put_each(out, at, bytes);
+        } else {
+            put_two(out, at, bytes, 4);
+        }
     } else if count <= 32 {
-        put_blocks(out, at, bytes, 16);
+        if count <= 16 {
+            put_two(out, at, bytes, 8);
+        } else {
+            put_two(out, at, bytes, 16);
+        }
+    } else if count <= 65536 {
+        put_through(out, at, bytes);
     } else {
-        put_blocks(out, at, bytes, 32);
+        put_each(out, at, bytes);
     }
 }
