@@ -9,7 +9,7 @@ use mathlib.Core.Bool.{Bool, true, false, cond, _&&_}
 use mathlib.Core.List.{List, [], _∷_}
 use mathlib.Core.Path.{_≡_, refl, sym, ap, subst, _∙_}
 use lib.Dec.{T, eqb, leb, ltb, eqb→eq, eqb-refl, ltb→lt, leb→le}
-use lib.ListN.{length, getD, drop, take, drop-of-length-le}
+use lib.ListN.{length, getD, drop, take, drop-of-length-le, List·getD-eq-default}
 use lib.Seq.{drop-cons}
 use borrow.Author.Tests.{lt-ltb}
 use Rattle.encoding.proofs.Promises.{and-left, and-right}
@@ -71,6 +71,11 @@ module _ {w : List ℕ} {op : ℕ} (f : Finding w op) where
   pub finding-none : 53 ≤ op → (op ≡ opcodeOf w) × (op ≤ 53)
   unfolding placeFrom
   finding-none h = (sym (f .rest ∙ ap (λ (l : List String). placeFrom op l w) (let n : length names ≤ op = omega (arith, names-length) in drop-of-length-le names n)), f .most)
+
+-- ---- no opcode above the table has a name
+pub name-none : (op : ℕ) → 53 ≤ op → [] ≡ nameOf op
+unfolding nameOf
+name-none op h = let l : length names ≤ op = omega (arith, names-length) in rw (List·getD-eq-default names "" l)
 
 -- ---- a supported opcode: its name is a word that does not begin with a digit, and is the name of no opcode before it
 abbrev nameGood : ℕ → Bool

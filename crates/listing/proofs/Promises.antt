@@ -10,8 +10,9 @@ use Rattle.report.specs.Text.{Appends}
 use Rattle.isa.specs.Classes.{kind, classOf, kind-unsupported}
 use Rattle.isa.specs.Decode.{operandBytes}
 use Rattle.isa.specs.Starts.{starts}
+use Rattle.listing.specs.Names.{nameOf}
 use Rattle.listing.specs.Numbers.{decimal}
-use Rattle.listing.specs.Text.{textOf, textAt, isInstruction}
+use Rattle.listing.specs.Text.{textOf, textAt, isInstruction, plainAt}
 use Rattle.listing.specs.Line.{operandsOf, readLine, lineBytes}
 use Rattle.listing.specs.Listing.{listing, allInstructions, bytes, readLines, listingText, readText}
 use Rattle.listing.specs.declared.reading.Line.the-variants.{Instruction}
@@ -38,6 +39,23 @@ listing-read-back e low h t = inverse.listing-back e low 0 h t
 -- as one text
 pub listing-text-read-back : (e : List ℕ) → ((j : ℕ) → getD e j 0 < 256) → length e < 2 ^ 64 → T (allInstructions e (starts e)) → readText (listingText e) ≡ bytes e
 listing-text-read-back e low h t = inverse.text-back e low h t
+
+-- ---- a supported instruction that starts within the bytes, and ends there
+pub instruction-inside : (e : List ℕ) (k : ℕ) → isInstruction e k ≡ true → k < length e
+instruction-inside e k i = texting.instructed e k i .inside
+
+-- its text ends with a line feed and has less than 64 characters; without the offset it is shorter; the name alone has at most 13
+pub text-some : (e : List ℕ) (k : ℕ) → 0 < length (textAt e k)
+text-some = texting.text-some
+
+pub text-length : (e : List ℕ) → ((j : ℕ) → getD e j 0 < 256) → (k : ℕ) → k < 2 ^ 64 → isInstruction e k ≡ true → length (textAt e k) < 64
+text-length e low k h i = texting.text-length e k (texting.instructed e k i) h low
+
+pub plain-length : (e : List ℕ) → ((j : ℕ) → getD e j 0 < 256) → (k : ℕ) → k < 2 ^ 64 → isInstruction e k ≡ true → length (plainAt e k) < 64
+plain-length e low k h i = texting.plain-length e k (text-length e low k h i) i
+
+pub name-length : (op : ℕ) → kind-unsupported < kind (classOf op) → length (nameOf op) ≤ 13
+name-length op s = good-name op s .most
 
 -- a number, as `report::text::append_number` ensures it, is appended in decimal
 pub appends-number : {b b' : List ℕ} {n n' : ℕ} (v : ℕ) → ((k : ℕ) × Fewest 10 1 v k × Appends b n (digits 10 k v) b' n') → Appends b n (decimal v) b' n'

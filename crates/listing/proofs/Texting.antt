@@ -183,6 +183,17 @@ text-length e k i h low =
       length-append q (10 ∷ []),
     )
 
+text-parts-length : (e : List ℕ) (k : ℕ) → length (namedAt e k) < length (textAt e k)
+text-parts-length e k =
+    let f = aligned (decimal k) ++ (32 ∷ 32 ∷ []) in
+    omega (arith, ap length (text-named e k), length-append (f ++ namedAt e k) (10 ∷ []), length-append f (namedAt e k))
+
+pub text-some : (e : List ℕ) (k : ℕ) → 0 < length (textAt e k)
+text-some e k = omega (arith, text-parts-length e k)
+
+pub plain-length : (e : List ℕ) (k : ℕ) → length (textAt e k) < 64 → isInstruction e k ≡ true → length (plainAt e k) < 64
+plain-length e k h i = omega (arith, ap length (plain-some e k i), text-parts-length e k)
+
 -- ---- `write_instruction`
 abbrev pub Writes : List ℕ → ℕ → List ℕ → Written → List ℕ → Type 0
 Writes e k o r o' = (r ≡ writtenAnswer e k o) × ((o' ≡ writtenLeft e k o) × ((n : ℕ) → r ≡ Written·text n → n ≤ length o'))
