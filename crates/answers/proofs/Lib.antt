@@ -2,4 +2,5 @@
 pub mod Promises
 mod Answering
 mod Rows
+mod Sizes
 mod Columns

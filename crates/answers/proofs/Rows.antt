@@ -61,10 +61,9 @@ module _ (e : List ℕ) (a : Bool) (h k : ℕ) where
 module _ (e : List ℕ) (low : (j : ℕ) → getD e j 0 < 256) (k : ℕ) (h : k < 2 ^ 64) (i : isInstruction e k ≡ true) (o : List ℕ) (room : length o ≡ 64) where
   pub written-whole : writtenAnswer e k o ≡ Text (length (textAt e k))
   unfolding writtenAnswer
-  written-whole = rw (i, le-leb (length (textAt e k)) (length o) (omega (arith, text-length e low k h i, room)))
+  written-whole = rw (i, le-leb (length (textAt e k)) (length o) (omega (arith, text-length e low k h, room)))
 
-  pub written-text : (r : Written) (o' : List ℕ) → r ≡ writtenAnswer e k o → o' ≡ writtenLeft e k o → (n : ℕ) → r ≡ Text n
-      → (n ≡ length (textAt e k)) × (take (n - 0) o' ≡ textAt e k)
+  pub written-text : (r : Written) (o' : List ℕ) → r ≡ writtenAnswer e k o → o' ≡ writtenLeft e k o → (n : ℕ) → r ≡ Text n → take (n - 0) o' ≡ textAt e k
   unfolding writtenLeft
   written-text r o' p q n t =
       let l = length (textAt e k) in
@@ -72,7 +71,7 @@ module _ (e : List ℕ) (low : (j : ℕ) → getD e j 0 < 256) (k : ℕ) (h : k 
       let m : n ≡ l = cc in
       let z : n - 0 ≡ l = omega arith in
       let w : o' ≡ writtenAt o 0 (textAt e k) = rw written-whole at q in
-      (m, ap (λ (j : ℕ). take j o') z ∙ ap (take l) w ∙ written-read o 0 (textAt e k) (omega (arith, text-length e low k h i, room)))
+      ap (λ (j : ℕ). take j o') z ∙ ap (take l) w ∙ written-read o 0 (textAt e k) (omega (arith, text-length e low k h, room))
 
 -- of its three answers, the first is not one of the others
 pub not-others {ℓ} : {X : Type ℓ} → OneOf (1 ∷ 2 ∷ []) 0 → X

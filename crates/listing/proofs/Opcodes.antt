@@ -12,7 +12,7 @@ use lib.Dec.{T, eqb, leb, ltb, eqb→eq, eqb-refl, ltb→lt, leb→le}
 use lib.ListN.{length, getD, drop, take, drop-of-length-le, List·getD-eq-default}
 use lib.Seq.{drop-cons}
 use borrow.Author.Tests.{lt-ltb}
-use Rattle.encoding.proofs.Promises.{and-left, and-right}
+use Rattle.encoding.proofs.Promises.{and-left, and-right, cases}
 use Rattle.isa.specs.Classes.{kind-unsupported, kind, classOf, opcodes}
 use Rattle.isa.specs.Document.{below}
 use Rattle.isa.proofs.Promises.{known-low}
@@ -77,11 +77,22 @@ pub name-none : (op : ℕ) → 53 ≤ op → [] ≡ nameOf op
 unfolding nameOf
 name-none op h = let l : length names ≤ op = omega (arith, names-length) in rw (List·getD-eq-default names "" l)
 
+-- ---- a name has at most 13 characters
+names-short : T (below 53 (λ op. leb (length (nameOf op)) 13))
+unfolding names nameOf
+names-short = tt
+
+pub name-length : (op : ℕ) → length (nameOf op) ≤ 13
+name-length op =
+    cases op 53
+    (λ h. leb→le (length (nameOf op)) 13 (below-at 53 (λ op. leb (length (nameOf op)) 13) names-short op h))
+    (λ h. omega (arith, ap length (name-none op h)))
+
 -- ---- a supported opcode: its name is a word that does not begin with a digit, and is the name of no opcode before it
 abbrev nameGood : ℕ → Bool
 nameGood op =
     cond (ltb kind-unsupported (kind (classOf op)))
-    (eqb (opcodeOf (nameOf op)) op && (all isInWord (nameOf op) && (ltb 0 (length (nameOf op)) && leb (length (nameOf op)) 13))) true
+    (eqb (opcodeOf (nameOf op)) op && (all isInWord (nameOf op) && ltb 0 (length (nameOf op)))) true
 
 names-good : T (below 53 nameGood)
 unfolding opcodeOf placeFrom names nameOf isInWord isBlank opcodes classOf
@@ -92,7 +103,6 @@ pub record GoodName (op : ℕ) : Type 0 where
   pub back : opcodeOf (nameOf op) ≡ op
   pub word : T (all isInWord (nameOf op))
   pub some : 0 < length (nameOf op)
-  pub most : length (nameOf op) ≤ 13
 
 pub good-name : (op : ℕ) → kind-unsupported < kind (classOf op) → GoodName op
 good-name op h =
@@ -101,15 +111,12 @@ good-name op h =
     let back = eqb (opcodeOf (nameOf op)) op in
     let word = all isInWord (nameOf op) in
     let some = ltb 0 (length (nameOf op)) in
-    let most = leb (length (nameOf op)) 13 in
-    let u = and-right back (word && (some && most)) t in
-    let v = and-right word (some && most) u in
+    let u = and-right back (word && some) t in
     record {
       low = l;
-      back = eqb→eq (opcodeOf (nameOf op)) op (and-left back (word && (some && most)) t);
-      word = and-left word (some && most) u;
-      some = ltb→lt 0 (length (nameOf op)) (and-left some most v);
-      most = leb→le (length (nameOf op)) 13 (and-right some most v);
+      back = eqb→eq (opcodeOf (nameOf op)) op (and-left back (word && some) t);
+      word = and-left word some u;
+      some = ltb→lt 0 (length (nameOf op)) (and-right word some u);
     }
 
 -- ---- a row t of the table as the code reads it

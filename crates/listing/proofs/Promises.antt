@@ -18,13 +18,13 @@ use Rattle.listing.specs.Listing.{listing, allInstructions, bytes, readL
 use Rattle.listing.specs.declared.reading.Line.the-variants.{Instruction}
 use Rattle.listing.proofs.Decimals as decimals
 use Rattle.listing.proofs.Inverse as inverse
-use Rattle.listing.proofs.Opcodes.{good-name}
+use Rattle.listing.proofs.Opcodes as opcodes
 use Rattle.listing.proofs.Texting as texting
 
 -- the text of a supported instruction with an operand that fits is read back as it
 pub text-read-back : (at op v : ℕ) → at < 2 ^ 64 → kind-unsupported < kind (classOf op) → v < 256 ^ operandsOf op
     → readLine at (textOf at op (operandsOf op) v) ≡ Instruction op (operandsOf op) v
-text-read-back at op v h s f = inverse.line-back op (operandsOf op) v (good-name op s) refl (inverse.word-low op v f) f at h
+text-read-back at op v h s f = inverse.line-back op (operandsOf op) v (opcodes.good-name op s) refl (inverse.word-low op v f) f at h
 
 -- the text of an instruction of an expression is read back as its bytes
 pub instruction-read-back : (e : List ℕ) → ((j : ℕ) → getD e j 0 < 256) → (k : ℕ) → k < 2 ^ 64 → isInstruction e k ≡ true
@@ -40,22 +40,22 @@ listing-read-back e low h t = inverse.listing-back e low 0 h t
 pub listing-text-read-back : (e : List ℕ) → ((j : ℕ) → getD e j 0 < 256) → length e < 2 ^ 64 → T (allInstructions e (starts e)) → readText (listingText e) ≡ bytes e
 listing-text-read-back e low h t = inverse.text-back e low h t
 
--- ---- a supported instruction that starts within the bytes, and ends there
+-- a supported instruction starts within the bytes
 pub instruction-inside : (e : List ℕ) (k : ℕ) → isInstruction e k ≡ true → k < length e
 instruction-inside e k i = texting.instructed e k i .inside
 
--- its text ends with a line feed and has less than 64 characters; without the offset it is shorter; the name alone has at most 13
+-- the text of an instruction has less than 64 characters, without the offset too, and a name at most 13
 pub text-some : (e : List ℕ) (k : ℕ) → 0 < length (textAt e k)
 text-some = texting.text-some
 
-pub text-length : (e : List ℕ) → ((j : ℕ) → getD e j 0 < 256) → (k : ℕ) → k < 2 ^ 64 → isInstruction e k ≡ true → length (textAt e k) < 64
-text-length e low k h i = texting.text-length e k (texting.instructed e k i) h low
+pub text-length : (e : List ℕ) → ((j : ℕ) → getD e j 0 < 256) → (k : ℕ) → k < 2 ^ 64 → length (textAt e k) < 64
+text-length = texting.text-length
 
-pub plain-length : (e : List ℕ) → ((j : ℕ) → getD e j 0 < 256) → (k : ℕ) → k < 2 ^ 64 → isInstruction e k ≡ true → length (plainAt e k) < 64
-plain-length e low k h i = texting.plain-length e k (text-length e low k h i) i
+pub plain-length : (e : List ℕ) → ((j : ℕ) → getD e j 0 < 256) → (k : ℕ) → k < 2 ^ 64 → length (plainAt e k) < 64
+plain-length = texting.plain-length
 
-pub name-length : (op : ℕ) → kind-unsupported < kind (classOf op) → length (nameOf op) ≤ 13
-name-length op s = good-name op s .most
+pub name-length : (op : ℕ) → length (nameOf op) ≤ 13
+name-length = opcodes.name-length
 
 -- a number, as `report::text::append_number` ensures it, is appended in decimal
 pub appends-number : {b b' : List ℕ} {n n' : ℕ} (v : ℕ) → ((k : ℕ) × Fewest 10 1 v k × Appends b n (digits 10 k v) b' n') → Appends b n (decimal v) b' n'

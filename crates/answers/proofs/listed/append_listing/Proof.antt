@@ -2,14 +2,14 @@
 use borrow.Author.Needs.{needs}
 use denote.Ref.{now}
 use native.Mathlib.Omega.{arith}
-use mathlib.Core.Path.{sym, ap, _∙_}
-use Prim.Native.Nat.{ℕ, _-_}
+use mathlib.Core.Path.{sym, _∙_}
+use Prim.Native.Nat.{_-_}
 use lib.ListN.{length, getD}
 use Rattle.io.specs.Counts.{Counts}
 use Rattle.isa.specs.Decode.{next}
 use Rattle.report.proofs.Promises.{Going, going-start, going-part, going-end}
 use Rattle.answers.specs.Listed.{rowText, rowsFrom}
-use Rattle.answers.proofs.Rows.{listed, rows-next, rows-end}
+use Rattle.answers.proofs.Rows.{Listed, listed, rows-next, rows-end}
 use Rattle.answers.proofs.listed.append_listing.Statement.{statement}
 use Rattle.answers.proofs.listed.append_listing.Tie as tie
 
@@ -19,6 +19,10 @@ Inv-loop out₀ at code heights is-accepted n₀ k₀ out n k = Going out₀ at 
 abbrev μ-loop : tie.MeasureT-loop
 μ-loop out₀ at code heights is-accepted n₀ k₀ out n k = length code - k
 
+-- the offset of this turn has a row
+row : (c : tie.Then1 Inv-loop μ-loop) → Listed (now (c .before .before .before .before .before .args .code)) (c .before .before .loop .k)
+row c = listed _ _ (sym (c .before .is-row .ensures) ∙ c .if1 .taken)
+
 loop-holds : tie.Need-loop-holds Inv-loop μ-loop
 loop-holds c = (going-start _ _ _, c .before .before .pre)
 
@@ -26,28 +30,16 @@ is-row-requires : tie.Need-is-row-requires Inv-loop μ-loop
 is-row-requires c κs = search needs
 
 element-copy-out-append-row : tie.Need-element-copy-out-append-row Inv-loop μ-loop
-element-copy-out-append-row c =
-    let s = c .before .before .before .before .before .before in
-    let e = now (s .args .code) in
-    omega (arith, listed e (c .before .before .before .loop .k) (sym (c .before .before .is-row .ensures) ∙ c .before .if1 .taken) .low)
+element-copy-out-append-row c = omega (arith, row (c .before) .low)
 
 append-row-requires : tie.Need-append-row-requires Inv-loop μ-loop
-append-row-requires c κs =
-    let s = c .before .before .before .before .before .before .before in
-    let e = now (s .args .code) in
-    listed e (c .before .before .before .before .loop .k) (sym (c .before .before .before .is-row .ensures) ∙ c .before .before .if1 .taken) .whole
+append-row-requires c κs = row (c .before .before) .whole
 
 add-k : tie.Need-add-k Inv-loop μ-loop
-add-k c =
-    let s = c .before .before .before .before .before .before .before .before .before .before in
-    let e = now (s .args .code) in
-    omega (arith, listed e (c .before .before .before .before .before .before .before .loop .k) (sym (c .before .before .before .before .before .before .is-row .ensures) ∙ c .before .before .before .before .before .if1 .taken) .low)
+add-k c = omega (arith, row (c .before .before .before .before .before) .low)
 
 shared-slice-read-look-up : tie.Need-shared-slice-read-look-up Inv-loop μ-loop
-shared-slice-read-look-up c =
-    let s = c .before .before .before .before .before .before .before .before .before .before .before in
-    let e = now (s .args .code) in
-    listed e (c .before .before .before .before .before .before .before .before .loop .k) (sym (c .before .before .before .before .before .before .before .is-row .ensures) ∙ c .before .before .before .before .before .before .if1 .taken) .inside
+shared-slice-read-look-up c = row (c .before .before .before .before .before .before) .inside
 
 look-up-requires : tie.Need-look-up-requires Inv-loop μ-loop
 look-up-requires c κs = search needs
@@ -56,16 +48,10 @@ cast-k : tie.Need-cast-k Inv-loop μ-loop
 cast-k c = search needs
 
 add-k-2 : tie.Need-add-k-2 Inv-loop μ-loop
-add-k-2 c =
-    let s = c .before .before .before .before .before .before .before .before .before .before .before .before .before in
-    let e = now (s .args .code) in
-    omega (arith, listed e (c .before .before .before .before .before .before .before .before .before .before .loop .k) (sym (c .before .before .before .before .before .before .before .before .before .is-row .ensures) ∙ c .before .before .before .before .before .before .before .before .if1 .taken) .low)
+add-k-2 c = omega (arith, row (c .before .before .before .before .before .before .before .before) .low)
 
 loop-less : tie.Need-loop-less Inv-loop μ-loop
-loop-less c =
-    let s = c .before .before .before .before .before .before .before .before .before .before .before .before .before in
-    let e = now (s .args .code) in
-    omega (arith, listed e (c .before .before .before .before .before .before .before .before .before .before .loop .k) (sym (c .before .before .before .before .before .before .before .before .before .is-row .ensures) ∙ c .before .before .before .before .before .before .before .before .if1 .taken) .inside)
+loop-less c = omega (arith, row (c .before .before .before .before .before .before .before .before) .inside)
 
 loop-again : tie.Need-loop-again Inv-loop μ-loop
 loop-again c =

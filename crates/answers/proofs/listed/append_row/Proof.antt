@@ -34,7 +34,7 @@ append-beside-requires c κs =
     let s = c .before .before .before .before .before .before .before .before .before .before .before .before in
     let e = now (s .args .code) in
     let w = c .before .before .before .before .before .before .before .before .write-instruction in
-    omega (arith, ap length (written-text e (λ j. c .before .before .before .before .before .before .before .before .before .before .shared-slice-known .given j .fits) (s .args .offset) (s .fits .offset .fits) (s .pre) _ refl (w .result) _ (w .ensures .0) (w .ensures .1 .0) _ (c .before .before .before .before .before .n .given .1) .1), text-some e (s .args .offset))
+    omega (arith, ap length (written-text e (λ j. c .before .before .before .before .before .before .before .before .before .before .shared-slice-known .given j .fits) (s .args .offset) (s .fits .offset .fits) (s .pre) _ refl (w .result) _ (w .ensures .0) (w .ensures .1 .0) _ (c .before .before .before .before .before .n .given .1)), text-some e (s .args .offset))
 
 same-length : tie.Need-same-length
 same-length c = search needs
@@ -44,7 +44,7 @@ returns c =
     let s = c .before .before .before .before .before .before .before .before .before .before .before .before .before .before .before in
     let e = now (s .args .code) in
     let w = c .before .before .before .before .before .before .before .before .before .before .before .write-instruction in
-    let t = written-text e (λ j. c .before .before .before .before .before .before .before .before .before .before .before .before .before .shared-slice-known .given j .fits) (s .args .offset) (s .fits .offset .fits) (s .pre) _ refl (w .result) _ (w .ensures .0) (w .ensures .1 .0) _ (c .before .before .before .before .before .before .before .before .n .given .1) .1 in
+    let t = written-text e (λ j. c .before .before .before .before .before .before .before .before .before .before .before .before .before .shared-slice-known .given j .fits) (s .args .offset) (s .fits .offset .fits) (s .pre) _ refl (w .result) _ (w .ensures .0) (w .ensures .1 .0) _ (c .before .before .before .before .before .before .before .before .n .given .1) in
     (c .before .before .append-beside .ensures .0, appends-same _ _ (ap (λ l. besideText l (s .args .height)) t ∙ row-accepted e _ (s .args .height) (s .args .offset) (c .before .before .before .before .before .before .if1 .taken)) (c .before .before .append-beside .ensures .1))
 
 sub-append : tie.Need-sub-append
@@ -73,7 +73,7 @@ returns-2 c =
     let s = c .before .before .before .before .before .before .before .before .before .before .before .before .before .before .before in
     let e = now (s .args .code) in
     let w = c .before .before .before .before .before .before .before .before .before .before .before .write-instruction in
-    let t = written-text e (λ j. c .before .before .before .before .before .before .before .before .before .before .before .before .before .shared-slice-known .given j .fits) (s .args .offset) (s .fits .offset .fits) (s .pre) _ refl (w .result) _ (w .ensures .0) (w .ensures .1 .0) _ (c .before .before .before .before .before .before .before .before .n .given .1) .1 in
+    let t = written-text e (λ j. c .before .before .before .before .before .before .before .before .before .before .before .before .before .shared-slice-known .given j .fits) (s .args .offset) (s .fits .offset .fits) (s .pre) _ refl (w .result) _ (w .ensures .0) (w .ensures .1 .0) _ (c .before .before .before .before .before .before .before .before .n .given .1) in
     (c .before .before .append .ensures .0, appends-same _ _ (t ∙ row-refused e _ (s .args .height) (s .args .offset) (c .before .before .before .before .before .before .if1 .left)) (c .before .before .append .ensures .1))
 
 same-length-3 : tie.Need-same-length-3
