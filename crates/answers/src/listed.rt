@@ -113,9 +113,10 @@ pub fn append_answer(out: &mut [u8], at: usize, code: &[u8], is_listed: bool) ->
 {
     let mut heights = [heights::UNREACHED; 1024];
     let answer = heights::heights(code, &mut heights);
+    let accepted = is_accepted(answer);
     let a = append_verdict(out, at, code, answer);
-    if !is_listed {
-        return a;
+    if is_listed {
+        return append_listing(out, a, code, &heights, accepted);
     }
-    append_listing(out, a, code, &heights, is_accepted(answer))
+    a
 }
