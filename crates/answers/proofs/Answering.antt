@@ -3,17 +3,48 @@ use Prim.Native.Nat.{ℕ, _≤_, _<_}
 use native.Mathlib.Omega.{arith}
 use mathlib.Core.Bool.{true, false}
 use mathlib.Core.List.{List, [], _++_}
-use mathlib.Core.Path.{_≡_, sym, _∙_}
+use mathlib.Core.Path.{_≡_, sym, ap, _∙_}
 use lib.Dec.{leb, ltb}
 use lib.ListN.{length, getD}
 use borrow.Author.Tests.{eq-eqb, ne-eqb, le-leb, lt-leb, lt-ltb, le-ltb}
 use Rattle.encoding.proofs.Promises.{cases}
-use Rattle.report.specs.Text.{bytesOf, Text}
+use Rattle.report.specs.Hex.{pairOf}
+use Rattle.report.specs.Text.{bytesOf, Text, Appends}
+use Rattle.report.proofs.Promises.{appends-same}
+use Rattle.isa.specs.Classes.{classOf, kind, kind-unknown, kind-unsupported}
+use Rattle.listing.specs.Names.{nameOf}
 use Rattle.listing.specs.Numbers.{decimal}
 use Rattle.listing.specs.Text.{isInstruction, plainAt}
 use Rattle.machine.specs.Machine.{Answer}
-use Rattle.answers.specs.Verdict.{opcodeText, thereText, instructionOf, heightText}
+use Rattle.answers.specs.Verdict.{unsupportedName, knownName, opcodeText, thereText, instructionOf, heightText}
 use Rattle.answers.specs.Outcome.{completedBy, isNarrow, completedText, isOfInstruction, instructionLine}
+
+-- ---- an opcode
+pub name-by : {b b' : List ℕ} {m m' : ℕ} (k op : ℕ) → op ≡ k → Appends b m (unsupportedName k) b' m' → Appends b m (unsupportedName op) b' m'
+name-by k op q p = appends-same (unsupportedName k) (unsupportedName op) (ap unsupportedName (sym q)) p
+
+module _ (op : ℕ) where
+  pub name-other : (op ≡ 0x01 → ⊥) → (op ≡ 0x1b → ⊥) → (op ≡ 0x1c → ⊥) → (op ≡ 0x1d → ⊥) → (op ≡ 0x1e → ⊥) → (op ≡ 0x1f → ⊥) → (op ≡ 0x34 → ⊥)
+      → [] ≡ unsupportedName op
+  unfolding unsupportedName
+  name-other a b c d e f g =
+      rw (ne-eqb op 0x01 a, ne-eqb op 0x1b b, ne-eqb op 0x1c c, ne-eqb op 0x1d d, ne-eqb op 0x1e e, ne-eqb op 0x1f f, ne-eqb op 0x34 g)
+
+  pub known-unsupported : kind (classOf op) ≡ kind-unsupported → unsupportedName op ≡ knownName op
+  unfolding knownName
+  known-unsupported q = rw (eq-eqb (kind (classOf op)) kind-unsupported q)
+
+  pub known-supported : (kind (classOf op) ≡ kind-unsupported → ⊥) → nameOf op ≡ knownName op
+  unfolding knownName
+  known-supported q = rw (ne-eqb (kind (classOf op)) kind-unsupported q)
+
+  pub opcode-unknown : kind (classOf op) ≡ kind-unknown → bytesOf " (opcode " ++ pairOf op ++ bytesOf ")" ≡ opcodeText op
+  unfolding opcodeText
+  opcode-unknown q = rw (eq-eqb (kind (classOf op)) kind-unknown q)
+
+  pub opcode-known : (kind (classOf op) ≡ kind-unknown → ⊥) → bytesOf " (" ++ knownName op ++ bytesOf ")" ≡ opcodeText op
+  unfolding opcodeText
+  opcode-known q = rw (ne-eqb (kind (classOf op)) kind-unknown q)
 
 -- ---- what stands at an offset
 module _ (e : List ℕ) (k : ℕ) where

@@ -1,4 +1,6 @@
 -- `Promises` is the page for users of this crate; the others hold the work behind it.
 pub mod Promises
 mod Answering
+mod Rows
+mod Sizes
 mod Columns

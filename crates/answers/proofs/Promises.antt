@@ -1,13 +1,17 @@
 -- What users of `answers` may cite. The contracts of src/ are the rest: each function appends the text that specs/ defines.
 use Prim.Native.Nat.{ℕ, _^_, _≤_, _<_}
-use mathlib.Core.Bool.{true, false}
+use mathlib.Core.Bool.{Bool, true, false}
 use mathlib.Core.List.{List, _++_}
 use mathlib.Core.Path.{_≡_}
-use lib.ListN.{length}
-use Rattle.report.specs.Text.{bytesOf}
+use lib.ListN.{length, take, getD}
+use Rattle.report.specs.Text.{bytesOf, Appends}
+use Rattle.verifier.specs.Verdict.{verdict}
+use Rattle.heights.specs.Arrivals.{ArrivalsBy}
 use Rattle.machine.specs.Machine.{Answer}
+use Rattle.answers.specs.Listed.{answerText}
 use Rattle.answers.specs.Outcome.{isNarrow, completedText, IsWords}
 use Rattle.answers.proofs.Columns as columns
+use Rattle.answers.proofs.Sizes as sizes
 
 -- ---- the answer of a completed run, whose numbers are words of 64 bits, is a line of at most 100 columns, or two
 pub narrow-line : (a : Answer) (n : ℕ) → isNarrow a n ≡ true → (l : List ℕ) × (completedText a n ≡ l ++ bytesOf "\n") × (length l ≤ 100)
@@ -16,3 +20,12 @@ narrow-line = columns.one-line
 pub wide-lines : (a : Answer) (n : ℕ) → isNarrow a n ≡ false → IsWords a → n < 2 ^ 64
     → (l : List ℕ) × (m : List ℕ) × (completedText a n ≡ l ++ bytesOf "\n" ++ m ++ bytesOf "\n") × (length l ≤ 100) × (length m ≤ 100)
 wide-lines = columns.two-lines
+
+-- ---- the whole answer of `verify` on bytes e: a buffer of 98,304 bytes has room for it, and holds it whole
+module _ (e : List ℕ) (low : (j : ℕ) → getD e j 0 < 256) (size : length e < 2 ^ 64) (hs : List ℕ) (r : ArrivalsBy e (verdict e) hs) (listed : Bool) where
+  pub answer-length : length (answerText e (verdict e) hs listed) ≤ 98304
+  answer-length = sizes.answer-length e low size hs r listed
+
+  pub answer-whole : (b b' : List ℕ) (n : ℕ) → 98304 ≤ length b' → Appends b 0 (answerText e (verdict e) hs listed) b' n
+      → take n b' ≡ answerText e (verdict e) hs listed
+  answer-whole = sizes.answer-whole e low size hs r listed

@@ -7,7 +7,9 @@ use lib.ListN.{length, getD}
 use Rattle.report.specs.Text.{bytesOf}
 use Rattle.report.specs.Hex.{pairOf}
 use Rattle.report.specs.Refusals.{refusalOf}
+use Rattle.isa.specs.Classes.{classOf, kind, kind-unknown, kind-unsupported}
 use Rattle.verifier.specs.Verdict.{Verdict, accepted, refused}
+use Rattle.listing.specs.Names.{nameOf}
 use Rattle.listing.specs.Numbers.{decimal}
 use Rattle.listing.specs.Text.{isInstruction, plainAt}
 use Rattle.heights.specs.Arrivals.{unreached}
@@ -20,10 +22,28 @@ acceptedText n g l =
     bytesOf "accepted: " ++ countText n (bytesOf "instruction") ++ bytesOf ", greatest height " ++ decimal g ++ bytesOf ", longest walk " ++ decimal l
     ++ bytesOf "\n"
 
-unfoldable pub opcodeText : ℕ → List ℕ
-opcodeText op = bytesOf " (opcode " ++ pairOf op ++ bytesOf ")"
+-- the names of the instructions that are not supported ("Bytecode Descriptions" in the GDB manual)
+unfoldable pub unsupportedName : ℕ → List ℕ
+unsupportedName op =
+    cond (eqb op 0x01) (bytesOf "float")
+    (cond (eqb op 0x1b) (bytesOf "ref_float")
+    (cond (eqb op 0x1c) (bytesOf "ref_double")
+    (cond (eqb op 0x1d) (bytesOf "ref_long_double")
+    (cond (eqb op 0x1e) (bytesOf "l_to_d")
+    (cond (eqb op 0x1f) (bytesOf "d_to_l")
+    (cond (eqb op 0x34) (bytesOf "printf") []))))))
 
--- what stands at offset k of the expression e: the instruction, or the opcode where no whole instruction does
+-- the name of an opcode that is not unknown
+unfoldable pub knownName : ℕ → List ℕ
+knownName op = cond (eqb (kind (classOf op)) kind-unsupported) (unsupportedName op) (nameOf op)
+
+-- an opcode by its name, or by its number where it is unknown
+unfoldable pub opcodeText : ℕ → List ℕ
+opcodeText op =
+    cond (eqb (kind (classOf op)) kind-unknown) (bytesOf " (opcode " ++ pairOf op ++ bytesOf ")")
+    (bytesOf " (" ++ knownName op ++ bytesOf ")")
+
+-- what stands at offset k of the expression e: the instruction, or the opcode where no whole supported instruction does
 unfoldable pub thereText : List ℕ → ℕ → List ℕ
 thereText e k =
     cond (leb (length e) k) []

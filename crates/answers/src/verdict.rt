@@ -1,8 +1,11 @@
 // The verdict on an expression.
+ghost use mathlib.Core.Path.{_≡_};
 ghost use Rattle.io.specs.Counts.{Counts};
 ghost use Rattle.report.specs.Text.{Appends};
+ghost use Rattle.isa.specs.Classes.{classOf, kind as kindOf};
 ghost use Rattle.verifier.specs.Verdict.{verdictOf};
-ghost use Rattle.answers.specs.Verdict.{acceptedText, opcodeText, thereText, instructionOf, refusedLine, verdictText, heightText};
+ghost use Rattle.answers.specs.Verdict.{acceptedText, unsupportedName, knownName, opcodeText, thereText, instructionOf, refusedLine, verdictText, heightText};
+use listing::names::append_name;
 use listing::writing::append_plain;
 use listing::writing::is_instruction;
 use phrases::numbers::append_count;
@@ -25,16 +28,47 @@ fn append_accepted(out: &mut [u8], at: usize, count: usize, height: u8, walk: us
     append(out, f, b"\n")
 }
 
+fn append_unsupported(out: &mut [u8], at: usize, opcode: u8) -> usize
+    ensures { λ r. ⌜ Appends (now (out .entry)) at (unsupportedName opcode) (now (out .exit)) r ⌝ }
+{
+    match opcode {
+        0x01 => append(out, at, b"float"),
+        0x1b => append(out, at, b"ref_float"),
+        0x1c => append(out, at, b"ref_double"),
+        0x1d => append(out, at, b"ref_long_double"),
+        0x1e => append(out, at, b"l_to_d"),
+        0x1f => append(out, at, b"d_to_l"),
+        0x34 => append(out, at, b"printf"),
+        _ => append(out, at, b""),
+    }
+}
+
+fn append_known(out: &mut [u8], at: usize, opcode: u8, kind: u8) -> usize
+    requires { ⌜ kind ≡ kindOf (classOf opcode) ⌝ }
+    ensures { λ r. ⌜ Appends (now (out .entry)) at (knownName opcode) (now (out .exit)) r ⌝ }
+{
+    if kind == isa::UNSUPPORTED {
+        return append_unsupported(out, at, opcode);
+    }
+    append_name(out, at, opcode)
+}
+
 fn append_opcode(out: &mut [u8], at: usize, opcode: u8) -> usize
     ensures count { λ r. ⌜ Counts r (now (out .exit)) ⌝ }
     ensures text { λ r. ⌜ Appends (now (out .entry)) at (opcodeText opcode) (now (out .exit)) r ⌝ }
 {
-    let a = append(out, at, b" (opcode ");
-    let b = report::hex::append_byte(out, a, opcode);
+    let kind = isa::look_up(opcode).kind;
+    if kind == isa::UNKNOWN {
+        let a = append(out, at, b" (opcode ");
+        let b = report::hex::append_byte(out, a, opcode);
+        return append(out, b, b")");
+    }
+    let a = append(out, at, b" (");
+    let b = append_known(out, a, opcode, kind);
     append(out, b, b")")
 }
 
-// What stands at an offset: the instruction, or the opcode where no whole instruction does.
+// What stands at an offset: the instruction, or the opcode where no whole supported instruction does.
 fn append_there(out: &mut [u8], at: usize, code: &[u8], offset: usize) -> usize
     ensures count { λ r. ⌜ Counts r (now (out .exit)) ⌝ }
     ensures text { λ r. ⌜ Appends (now (out .entry)) at (thereText (now (code .entry)) offset) (now (out .exit)) r ⌝ }

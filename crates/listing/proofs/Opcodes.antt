@@ -9,10 +9,10 @@ use mathlib.Core.Bool.{Bool, true, false, cond, _&&_}
 use mathlib.Core.List.{List, [], _∷_}
 use mathlib.Core.Path.{_≡_, refl, sym, ap, subst, _∙_}
 use lib.Dec.{T, eqb, leb, ltb, eqb→eq, eqb-refl, ltb→lt, leb→le}
-use lib.ListN.{length, getD, drop, take, drop-of-length-le}
+use lib.ListN.{length, getD, drop, take, drop-of-length-le, List·getD-eq-default}
 use lib.Seq.{drop-cons}
 use borrow.Author.Tests.{lt-ltb}
-use Rattle.encoding.proofs.Promises.{and-left, and-right}
+use Rattle.encoding.proofs.Promises.{and-left, and-right, cases}
 use Rattle.isa.specs.Classes.{kind-unsupported, kind, classOf, opcodes}
 use Rattle.isa.specs.Document.{below}
 use Rattle.isa.proofs.Promises.{known-low}
@@ -77,11 +77,27 @@ module _ {w : List ℕ} {op : ℕ} (f : Finding w op) where
 abbrev pub isPlain : ℕ → Bool
 isPlain c = isNot 10 c && isNot 35 c
 
+-- ---- no opcode above the table has a name
+pub name-none : (op : ℕ) → 53 ≤ op → [] ≡ nameOf op
+unfolding nameOf
+name-none op h = let l : length names ≤ op = omega (arith, names-length) in rw (List·getD-eq-default names "" l)
+
+-- ---- a name has at most 13 characters
+names-short : T (below 53 (λ op. leb (length (nameOf op)) 13))
+unfolding names nameOf
+names-short = tt
+
+pub name-length : (op : ℕ) → length (nameOf op) ≤ 13
+name-length op =
+    cases op 53
+    (λ h. leb→le (length (nameOf op)) 13 (below-at 53 (λ op. leb (length (nameOf op)) 13) names-short op h))
+    (λ h. omega (arith, ap length (name-none op h)))
+
 -- ---- a supported opcode: its name is a plain word that does not begin with a digit, and is the name of no opcode before it
 abbrev nameGood : ℕ → Bool
 nameGood op =
     cond (ltb kind-unsupported (kind (classOf op)))
-    (eqb (opcodeOf (nameOf op)) op && (all isInWord (nameOf op) && (all isPlain (nameOf op) && (ltb 0 (length (nameOf op)) && leb (length (nameOf op)) 13)))) true
+    (eqb (opcodeOf (nameOf op)) op && (all isInWord (nameOf op) && (all isPlain (nameOf op) && ltb 0 (length (nameOf op))))) true
 
 names-good : T (below 53 nameGood)
 unfolding opcodeOf placeFrom names nameOf isInWord isBlank opcodes classOf
@@ -93,7 +109,6 @@ pub record GoodName (op : ℕ) : Type 0 where
   pub word : T (all isInWord (nameOf op))
   pub plain : T (all isPlain (nameOf op))
   pub some : 0 < length (nameOf op)
-  pub most : length (nameOf op) ≤ 13
 
 pub good-name : (op : ℕ) → kind-unsupported < kind (classOf op) → GoodName op
 good-name op h =
@@ -103,17 +118,14 @@ good-name op h =
     let word = all isInWord (nameOf op) in
     let plain = all isPlain (nameOf op) in
     let some = ltb 0 (length (nameOf op)) in
-    let most = leb (length (nameOf op)) 13 in
-    let u = and-right back (word && (plain && (some && most))) t in
-    let v = and-right word (plain && (some && most)) u in
-    let w = and-right plain (some && most) v in
+    let u = and-right back (word && (plain && some)) t in
+    let v = and-right word (plain && some) u in
     record {
       low = l;
-      back = eqb→eq (opcodeOf (nameOf op)) op (and-left back (word && (plain && (some && most))) t);
-      word = and-left word (plain && (some && most)) u;
-      plain = and-left plain (some && most) v;
-      some = ltb→lt 0 (length (nameOf op)) (and-left some most w);
-      most = leb→le (length (nameOf op)) 13 (and-right some most w);
+      back = eqb→eq (opcodeOf (nameOf op)) op (and-left back (word && (plain && some)) t);
+      word = and-left word (plain && some) u;
+      plain = and-left plain some v;
+      some = ltb→lt 0 (length (nameOf op)) (and-right plain some v);
     }
 
 -- ---- a row t of the table as the code reads it

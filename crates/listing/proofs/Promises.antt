@@ -12,8 +12,9 @@ use Rattle.encoding.specs.Written.{writtenAt}
 use Rattle.isa.specs.Classes.{kind, classOf, kind-unsupported}
 use Rattle.isa.specs.Decode.{operandBytes}
 use Rattle.isa.specs.Starts.{starts}
+use Rattle.listing.specs.Names.{nameOf}
 use Rattle.listing.specs.Numbers.{decimal}
-use Rattle.listing.specs.Text.{textOf, textAt, isInstruction}
+use Rattle.listing.specs.Text.{textOf, textAt, isInstruction, plainAt}
 use Rattle.listing.specs.Line.{operandsOf, readLine, lineBytes}
 use Rattle.listing.specs.Meant.{meant}
 use Rattle.listing.specs.Listing.{listing, allInstructions, bytes, fault, readLines, listingText, readText}
@@ -23,7 +24,7 @@ use Rattle.listing.specs.declared.reading.Line.the-variants.{Instruction
 use Rattle.listing.specs.declared.whole.Whole.the-variants.{Bytes, Wrong}
 use Rattle.listing.proofs.Decimals as decimals
 use Rattle.listing.proofs.Inverse as inverse
-use Rattle.listing.proofs.Opcodes.{good-name}
+use Rattle.listing.proofs.Opcodes as opcodes
 use Rattle.listing.proofs.Outcomes as outcomes
 use Rattle.listing.proofs.Texting as texting
 
@@ -32,13 +33,13 @@ pub text-read-back : (at op v : ℕ) → at < 2 ^ 64 → kind-unsupported < kind
     → readLine at (textOf at op (operandsOf op) v) ≡ Instruction op (operandsOf op) v
 unfolding textOf isBlank
 text-read-back at op v h s f =
-    ap (readLine at) (sym (texting.row-parts at op (operandsOf op) v (10 ∷ []))) ∙ inverse.line-back (10 ∷ []) tt op (operandsOf op) v (good-name op s) refl (inverse.word-low op v f) f at h
+    ap (readLine at) (sym (texting.row-parts at op (operandsOf op) v (10 ∷ []))) ∙ inverse.line-back (10 ∷ []) tt op (operandsOf op) v (opcodes.good-name op s) refl (inverse.word-low op v f) f at h
 
 -- and so is the line a, which is that text without its line feed, with n spaces and a comment behind it
 pub row-read-back : (at op v : ℕ) → at < 2 ^ 64 → kind-unsupported < kind (classOf op) → v < 256 ^ operandsOf op
     → (a : List ℕ) → a ++ (10 ∷ []) ≡ textOf at op (operandsOf op) v
     → (n : ℕ) (t : List ℕ) → meant at (a ++ (replicate n 32 ++ (35 ∷ t))) ≡ Instruction op (operandsOf op) v
-row-read-back at op v h s f = inverse.comment-back op (operandsOf op) v (good-name op s) refl (inverse.word-low op v f) f at h
+row-read-back at op v h s f = inverse.comment-back op (operandsOf op) v (opcodes.good-name op s) refl (inverse.word-low op v f) f at h
 
 -- the text of an instruction of an expression is read back as its bytes
 pub instruction-read-back : (e : List ℕ) → ((j : ℕ) → getD e j 0 < 256) → (k : ℕ) → k < 2 ^ 64 → isInstruction e k ≡ true
@@ -64,6 +65,23 @@ answered-bytes = outcomes.told-right
 
 pub answered-wrong : (t o : List ℕ) (n : ℕ) (f : Fault) (c : ℕ) → outcome t o .answer ≡ Wrong n f c → readText t ≡ fault n f c
 answered-wrong = outcomes.told-wrong
+
+-- a supported instruction starts within the bytes
+pub instruction-inside : (e : List ℕ) (k : ℕ) → isInstruction e k ≡ true → k < length e
+instruction-inside e k i = texting.instructed e k i .inside
+
+-- the text of an instruction has less than 64 characters, without the offset too, and a name at most 13
+pub text-some : (e : List ℕ) (k : ℕ) → 0 < length (textAt e k)
+text-some = texting.text-some
+
+pub text-length : (e : List ℕ) → ((j : ℕ) → getD e j 0 < 256) → (k : ℕ) → k < 2 ^ 64 → length (textAt e k) < 64
+text-length = texting.text-length
+
+pub plain-length : (e : List ℕ) → ((j : ℕ) → getD e j 0 < 256) → (k : ℕ) → k < 2 ^ 64 → length (plainAt e k) < 64
+plain-length = texting.plain-length
+
+pub name-length : (op : ℕ) → length (nameOf op) ≤ 13
+name-length = opcodes.name-length
 
 -- a number, as `report::text::append_number` ensures it, is appended in decimal
 pub appends-number : {b b' : List ℕ} {n n' : ℕ} (v : ℕ) → ((k : ℕ) × Fewest 10 1 v k × Appends b n (digits 10 k v) b' n') → Appends b n (decimal v) b' n'

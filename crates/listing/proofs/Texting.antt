@@ -2,7 +2,7 @@
 use Prim.Native.Nat.{ℕ, _+_, _-_, _^_, _≤_, _<_}
 use native.Mathlib.Nat.{pow-le-pow-right}
 use native.Mathlib.Omega.{arith}
-use mathlib.Core.Bool.{Bool, true, false, _&&_}
+use mathlib.Core.Bool.{Bool, true, false, cond, _&&_}
 use mathlib.Core.List.{List, [], _∷_, _++_}
 use mathlib.Core.Path.{_≡_, refl, sym, ap, _∙_}
 use lib.Dec.{ltb, leb, lit<}
@@ -23,7 +23,7 @@ use Rattle.listing.specs.Text.{aligned, operandText, textOf, textAt, nam
 use Rattle.listing.specs.declared.writing.Written.{Written}
 use Rattle.listing.specs.declared.writing.Written.the-variants.{Text as Written·text, NoInstruction, NoRoom}
 use Rattle.listing.proofs.Decimals.{fewest-decimal, decimal-some, decimal-most, decimal-least}
-use Rattle.listing.proofs.Opcodes.{good-name}
+use Rattle.listing.proofs.Opcodes.{name-length}
 
 -- ---- a number, as `append_number` ensures it
 abbrev pub AppendsNumber : List ℕ → ℕ → ℕ → List ℕ → ℕ → Type 0
@@ -170,10 +170,9 @@ operand-length count v h =
     (λ g. omega (arith, ap length (operand-some count v (λ z. omega arith)), signed-length v h))
     (λ l. omega (arith, ap length (operand-none count v (omega arith))))
 
-pub text-length : (e : List ℕ) (k : ℕ) → Instructed e k → k < 2 ^ 64 → ((j : ℕ) → getD e j 0 < 256) → length (textAt e k) < 64
+pub text-length : (e : List ℕ) → ((j : ℕ) → getD e j 0 < 256) → (k : ℕ) → k < 2 ^ 64 → length (textAt e k) < 64
 unfolding operand textAt textOf
-text-length e k i h low =
-    let s = i .supported in
+text-length e low k h =
     let p = pow-le-pow-right (lit< {m = 0} {n = 256} tt) (operands-most (getD e k 0)) in
     let l : operand e k < 2 ^ 64 = omega (arith, big-below e (k + 1) (operandBytes e k) low, p) in
     let n = nameOf (getD e k 0) in
@@ -182,11 +181,27 @@ text-length e k i h low =
       arith,
       aligned-length k h,
       operand-length (operandBytes e k) (operand e k) l,
-      good-name (getD e k 0) s .most,
+      name-length (getD e k 0),
       length-append (aligned (decimal k)) ((32 ∷ 32 ∷ []) ++ (n ++ (q ++ (10 ∷ [])))),
       length-append n (q ++ (10 ∷ [])),
       length-append q (10 ∷ []),
     )
+
+text-parts-length : (e : List ℕ) (k : ℕ) → length (namedAt e k) < length (textAt e k)
+text-parts-length e k =
+    let f = aligned (decimal k) ++ (32 ∷ 32 ∷ []) in
+    omega (arith, ap length (text-named e k), length-append (f ++ namedAt e k) (10 ∷ []), length-append f (namedAt e k))
+
+pub text-some : (e : List ℕ) (k : ℕ) → 0 < length (textAt e k)
+text-some e k = omega (arith, text-parts-length e k)
+
+pub plain-length : (e : List ℕ) → ((j : ℕ) → getD e j 0 < 256) → (k : ℕ) → k < 2 ^ 64 → length (plainAt e k) < 64
+unfolding plainAt
+plain-length e low k h =
+    elim (isInstruction e k) as (λ (b : Bool). length (cond b (namedAt e k) []) < 64) [
+      | true ↦ omega (arith, text-length e low k h, text-parts-length e k)
+      | false ↦ omega arith
+    ]
 
 -- ---- `write_instruction`
 abbrev pub Writes : List ℕ → ℕ → List ℕ → Written → List ℕ → Type 0

@@ -1,5 +1,5 @@
 // Listings of expressions: an instruction as GDB's `maint agent` prints it, and such lines read back.
-mod names;
+pub mod names;
 mod numbers;
 pub mod reading;
 pub mod whole;

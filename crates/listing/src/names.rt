@@ -4,6 +4,7 @@ ghost use Prim.Native.Nat.{_<_, _≤_};
 ghost use Rattle.report.specs.Text.{Appends};
 ghost use Rattle.words.specs.Words.{sameBytes};
 ghost use Rattle.listing.specs.Names.{table, nameOf, opcodeOf};
+use report::text::append;
 use words::word_length;
 
 // By opcode from 00 to 34, with spaces behind. An opcode that is unknown or unsupported has none.
@@ -100,12 +101,15 @@ fn append_from(names: &[[u8; 13]; 53], out: &mut [u8], at: usize, opcode: usize)
 {
     let name = names[opcode];
     let n = word_length(&name);
-    report::text::append(out, at, &name[0..n])
+    append(out, at, &name[0..n])
 }
 
+// Appends the name of an opcode; nothing where it has none.
 pub fn append_name(out: &mut [u8], at: usize, opcode: u8) -> usize
-    requires { ⌜ opcode < 53 ⌝ }
     ensures { λ r. ⌜ Appends (now (out .entry)) at (nameOf opcode) (now (out .exit)) r ⌝ }
 {
+    if 53 <= opcode {
+        return append(out, at, b"");
+    }
     append_from(&NAMES, out, at, opcode as usize)
 }

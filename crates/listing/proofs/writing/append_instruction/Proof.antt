@@ -4,7 +4,7 @@ use mathlib.Core.List.{[], _∷_}
 use Rattle.listing.specs.Numbers.{decimal}
 use Rattle.listing.specs.Text.{aligned, namedAt}
 use Rattle.report.proofs.Promises.{appends-same, one, more}
-use Rattle.listing.proofs.Texting.{instructed, text-named, text-length}
+use Rattle.listing.proofs.Texting.{text-named, text-length}
 use Rattle.listing.proofs.writing.append_instruction.Statement.{statement}
 use Rattle.listing.proofs.writing.append_instruction.Tie as tie
 
@@ -37,7 +37,7 @@ returns c =
       appends-same _ _ (text-named e k)
           ((more (more (more (one (aligned (decimal k)) (c .before .before .before .before .before .before .before .before .before .before .before .before .before .before .before .before .append-offset .ensures)) (32 ∷ 32 ∷ []) (c .before .before .before .before .before .before .before .before .before .before .before .append .ensures .1))
           (namedAt e k) (c .before .before .before .before .before .before .before .append-named .ensures)) (10 ∷ []) (c .before .before .append2 .ensures .1)) .text),
-      text-length e k (instructed e k (s .pre)) (s .fits .at .fits) (λ j. c .before .before .before .before .before .before .before .before .before .before .before .before .before .before .before .before .before .before .shared-slice-known .given j .fits),
+      text-length e (λ j. c .before .before .before .before .before .before .before .before .before .before .before .before .before .before .before .before .before .before .shared-slice-known .given j .fits) k (s .fits .at .fits),
     )
 
 pub append-instruction-spec : {M : Type 1} → statement M

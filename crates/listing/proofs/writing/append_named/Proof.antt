@@ -5,7 +5,6 @@ use lib.ListN.{getD}
 use Rattle.report.proofs.Promises.{appends-same, one, more}
 use Rattle.listing.specs.Names.{nameOf}
 use Rattle.listing.specs.Text.{operandText}
-use Rattle.listing.proofs.Opcodes.{good-name}
 use Rattle.listing.proofs.Texting.{instructed, named-parts}
 use Rattle.listing.proofs.writing.append_named.Statement.{statement}
 use Rattle.listing.proofs.writing.append_named.Tie as tie
@@ -23,7 +22,7 @@ operand-at-requires : tie.Need-operand-at-requires
 operand-at-requires c κs = (c .before .look-up .ensures .operands-is, instructed _ _ (c .before .before .before .before .before .pre) .whole)
 
 append-name-requires : tie.Need-append-name-requires
-append-name-requires c κs = let s = c .before .before .before .before .before .before .before in good-name (getD (now (s .args .code)) (s .args .offset) 0) (instructed _ _ (s .pre) .supported) .low
+append-name-requires c κs = search needs
 
 append-operand-requires : tie.Need-append-operand-requires
 append-operand-requires c κs = search needs

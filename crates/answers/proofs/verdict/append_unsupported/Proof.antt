@@ -1,0 +1,149 @@
+-- `answers::verdict::append_unsupported` meets its contract. Assumes nothing.
+use borrow.Author.Needs.{needs}
+use Rattle.report.proofs.Promises.{appends-same}
+use Rattle.answers.specs.Verdict.{unsupportedName}
+use Rattle.answers.proofs.Answering.{name-by, name-other}
+use Rattle.answers.proofs.verdict.append_unsupported.Statement.{statement}
+use Rattle.answers.proofs.verdict.append_unsupported.Tie as tie
+
+slice-aggregate-append : tie.Need-slice-aggregate-append
+slice-aggregate-append c = search needs
+
+append-requires : tie.Need-append-requires
+append-requires c κs = search needs
+
+slice-aggregate-append-2 : tie.Need-slice-aggregate-append-2
+slice-aggregate-append-2 c = search needs
+
+append-requires-2 : tie.Need-append-requires-2
+append-requires-2 c κs = search needs
+
+slice-aggregate-append-3 : tie.Need-slice-aggregate-append-3
+slice-aggregate-append-3 c = search needs
+
+append-requires-3 : tie.Need-append-requires-3
+append-requires-3 c κs = search needs
+
+slice-aggregate-append-4 : tie.Need-slice-aggregate-append-4
+slice-aggregate-append-4 c = search needs
+
+append-requires-4 : tie.Need-append-requires-4
+append-requires-4 c κs = search needs
+
+slice-aggregate-append-5 : tie.Need-slice-aggregate-append-5
+slice-aggregate-append-5 c = search needs
+
+append-requires-5 : tie.Need-append-requires-5
+append-requires-5 c κs = search needs
+
+slice-aggregate-append-6 : tie.Need-slice-aggregate-append-6
+slice-aggregate-append-6 c = search needs
+
+append-requires-6 : tie.Need-append-requires-6
+append-requires-6 c κs = search needs
+
+slice-aggregate-append-7 : tie.Need-slice-aggregate-append-7
+slice-aggregate-append-7 c = search needs
+
+append-requires-7 : tie.Need-append-requires-7
+append-requires-7 c κs = search needs
+
+slice-aggregate-append-8 : tie.Need-slice-aggregate-append-8
+slice-aggregate-append-8 c = search needs
+
+append-requires-8 : tie.Need-append-requires-8
+append-requires-8 c κs = search needs
+
+same-length : tie.Need-same-length
+same-length c = search needs
+
+returns : tie.Need-returns
+unfolding unsupportedName
+returns c = name-by 0x01 _ (c .before .before .before .before .before .match .keys1) (c .before .before .append .ensures .1)
+
+same-length-2 : tie.Need-same-length-2
+same-length-2 c = search needs
+
+returns-2 : tie.Need-returns-2
+unfolding unsupportedName
+returns-2 c = name-by 0x1b _ (c .before .before .before .before .before .match .keys2) (c .before .before .append2 .ensures .1)
+
+same-length-3 : tie.Need-same-length-3
+same-length-3 c = search needs
+
+returns-3 : tie.Need-returns-3
+unfolding unsupportedName
+returns-3 c = name-by 0x1c _ (c .before .before .before .before .before .match .keys3) (c .before .before .append3 .ensures .1)
+
+same-length-4 : tie.Need-same-length-4
+same-length-4 c = search needs
+
+returns-4 : tie.Need-returns-4
+unfolding unsupportedName
+returns-4 c = name-by 0x1d _ (c .before .before .before .before .before .match .keys4) (c .before .before .append4 .ensures .1)
+
+same-length-5 : tie.Need-same-length-5
+same-length-5 c = search needs
+
+returns-5 : tie.Need-returns-5
+unfolding unsupportedName
+returns-5 c = name-by 0x1e _ (c .before .before .before .before .before .match .keys5) (c .before .before .append5 .ensures .1)
+
+same-length-6 : tie.Need-same-length-6
+same-length-6 c = search needs
+
+returns-6 : tie.Need-returns-6
+unfolding unsupportedName
+returns-6 c = name-by 0x1f _ (c .before .before .before .before .before .match .keys6) (c .before .before .append6 .ensures .1)
+
+same-length-7 : tie.Need-same-length-7
+same-length-7 c = search needs
+
+returns-7 : tie.Need-returns-7
+unfolding unsupportedName
+returns-7 c = name-by 0x34 _ (c .before .before .before .before .before .match .keys7) (c .before .before .append7 .ensures .1)
+
+same-length-8 : tie.Need-same-length-8
+same-length-8 c = search needs
+
+returns-8 : tie.Need-returns-8
+returns-8 c =
+    let o = c .before .before .before .before .before .match .rest in
+    appends-same _ _ (name-other _ (o .0 .0 .0 .0 .0 .0 .1) (o .0 .0 .0 .0 .0 .1) (o .0 .0 .0 .0 .1) (o .0 .0 .0 .1) (o .0 .0 .1) (o .0 .1) (o .1)) (c .before .before .append8 .ensures .1)
+
+pub append-unsupported-spec : {M : Type 1} → statement M
+append-unsupported-spec =
+    tie.close
+    (tie.spec
+    slice-aggregate-append
+    append-requires
+    slice-aggregate-append-2
+    append-requires-2
+    slice-aggregate-append-3
+    append-requires-3
+    slice-aggregate-append-4
+    append-requires-4
+    slice-aggregate-append-5
+    append-requires-5
+    slice-aggregate-append-6
+    append-requires-6
+    slice-aggregate-append-7
+    append-requires-7
+    slice-aggregate-append-8
+    append-requires-8
+    same-length
+    returns
+    same-length-2
+    returns-2
+    same-length-3
+    returns-3
+    same-length-4
+    returns-4
+    same-length-5
+    returns-5
+    same-length-6
+    returns-6
+    same-length-7
+    returns-7
+    same-length-8
+    returns-8)
