@@ -1,5 +1,5 @@
 -- What users of `answers` may cite. The contracts of src/ are the rest: each function appends the text that specs/ defines.
-use Prim.Native.Nat.{ℕ, _^_, _≤_, _<_}
+use Prim.Native.Nat.{ℕ, _+_, _*_, _/_, _^_, _≤_, _<_}
 use mathlib.Core.Bool.{Bool, true, false}
 use mathlib.Core.List.{List, _++_}
 use mathlib.Core.Path.{_≡_}
@@ -8,9 +8,11 @@ use Rattle.report.specs.Text.{bytesOf, Appends}
 use Rattle.verifier.specs.Verdict.{verdict}
 use Rattle.heights.specs.Arrivals.{ArrivalsBy}
 use Rattle.machine.specs.Machine.{Answer}
+use Rattle.answers.specs.Bytes.{bytesText}
 use Rattle.answers.specs.Listed.{answerText}
 use Rattle.answers.specs.Outcome.{isNarrow, completedText, IsWords}
 use Rattle.answers.proofs.Columns as columns
+use Rattle.answers.proofs.Lines as lines
 use Rattle.answers.proofs.Sizes as sizes
 
 -- ---- the answer of a completed run, whose numbers are words of 64 bits, is a line of at most 100 columns, or two
@@ -29,3 +31,7 @@ module _ (e : List ℕ) (low : (j : ℕ) → getD e j 0 < 256) (size : length e 
   pub answer-whole : (b b' : List ℕ) (n : ℕ) → 98304 ≤ length b' → Appends b 0 (answerText e (verdict e) hs listed) b' n
       → take n b' ≡ answerText e (verdict e) hs listed
   answer-whole = sizes.answer-whole e low size hs r listed
+
+-- the bytes of an expression: two characters a byte, and seven more for each line of 40
+pub bytes-length : (e : List ℕ) → length (bytesText e) ≡ 2 * length e + 7 * ((length e + 39) / 40)
+bytes-length = lines.bytes-length

@@ -15,7 +15,6 @@ use Rattle.encoding.proofs.Promises.{no-true, cases, written-read}
 use Rattle.report.specs.Text.{bytesOf}
 use Rattle.report.proofs.Promises.{append-nil}
 use Rattle.isa.specs.Decode.{next}
-use Rattle.isa.specs.Starts.{startsFrom}
 use Rattle.isa.proofs.Promises.{from-end, from-next}
 use Rattle.verifier.specs.Verdict.{Verdict}
 use Rattle.listing.specs.Text.{textAt, isInstruction, writtenAnswer, writtenLeft}

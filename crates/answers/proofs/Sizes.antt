@@ -5,7 +5,7 @@ use native.Mathlib.Omega.{arith}
 use native.Mathlib.Decide.{ℕ-discrete}
 use mathlib.Core.Bool.{Bool, true, false, cond, _&&_}
 use mathlib.Core.List.{List, [], _∷_, _++_}
-use mathlib.Core.Path.{_≡_, refl, sym, ap, _∙_}
+use mathlib.Core.Path.{_≡_, refl, ap, _∙_}
 use lib.Dec.{T, leb, eqb, leb→le}
 use lib.ListN.{length, take, getD, replicate, length-append, length-replicate, getD-replicate, List·getD-eq-default}
 use lib.Seq.{take-all, length-take-le}
@@ -17,7 +17,7 @@ use Rattle.report.specs.Text.{bytesOf, Appends}
 use Rattle.report.proofs.Promises.{text-start}
 use Rattle.isa.specs.Classes.{classOf, kind, kind-unknown, kind-unsupported}
 use Rattle.isa.specs.Decode.{next}
-use Rattle.isa.specs.Starts.{starts, startsFrom}
+use Rattle.isa.specs.Starts.{startsFrom}
 use Rattle.isa.specs.Walk.{Walk, stop, step}
 use Rattle.isa.proofs.Promises.{by-starts, from-end, from-next, start-in, walk-last, weigh-one}
 use Rattle.verifier.specs.Acceptance.{Accepted, Broken, heights-differ, too-few, too-many, runs-on, Justified, of-size, of-pass1, of-pass2, of-pass3}

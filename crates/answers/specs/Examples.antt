@@ -6,6 +6,7 @@ use Rattle.encoding.specs.BigEndian.{bigEndian}
 use Rattle.isa.specs.Classes.{opcodes, classOf}
 use Rattle.isa.specs.Decode.{operand}
 use Rattle.isa.specs.Starts.{startsAtMost, startsFrom}
+use Rattle.report.specs.Hex.{hexOf}
 use Rattle.report.specs.Text.{bytesOf}
 use Rattle.verifier.specs.Verdict.{accepted, refused}
 use Rattle.listing.specs.Names.{names, nameOf}
@@ -17,6 +18,7 @@ use Rattle.phrases.specs.Numbers.{countText, hexText, significant, valueText}
 use Rattle.phrases.specs.Refused.{refusedAt}
 use Rattle.answers.specs.Verdict.{acceptedText, unsupportedName, knownName, opcodeText, thereText, instructionOf, refusedLine, verdictText, heightText}
 use Rattle.answers.specs.Listed.{gapText, besideText, rowText, isListed, firstOf, listedFrom, rowsFrom, answerText}
+use Rattle.answers.specs.Bytes.{bytesLine, bytesLines, bytesText}
 use Rattle.answers.specs.Outcome.{stepsText, cellsText, completedBy, isNarrow, completedText, isOfInstruction, instructionLine, refusedText, outcomeText, changeText, bufferText}
 
 an-accepted : verdictText (0x22 ∷ 0x05 ∷ 0x22 ∷ 0x03 ∷ 0x02 ∷ 0x27 ∷ []) (accepted 4 2 4) ≡ bytesOf "accepted: 4 instructions, greatest height 2, longest walk 4\n"
@@ -59,6 +61,10 @@ a-refused-listing : answerText (0x28 ∷ 0x23 ∷ 0x01 ∷ []) (refused 4 1) [] 
     ≡ bytesOf "refused 4 at offset 1 (const16): the expression ends inside this instruction\n  0  dup\n"
 unfolding opcodes classOf startsAtMost startsFrom names nameOf decimalBy decimal aligned operandText textOf textAt isInstruction refusedAt knownName opcodeText thereText instructionOf refusedLine verdictText rowText isListed firstOf listedFrom rowsFrom answerText
 a-refused-listing = refl
+
+some-bytes : bytesText (0x22 ∷ 0x05 ∷ 0x27 ∷ []) ≡ bytesOf "bytes 220527\n"
+unfolding hexOf bytesLine bytesLines bytesText
+some-bytes = refl
 
 -- no value, the top, the top and the cell beneath
 completed-runs :
