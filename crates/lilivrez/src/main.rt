@@ -1,6 +1,7 @@
 // lilivrez: the command-line tool. A program has no exit status of its own, so the first word of
 // each answer on standard output is fixed: accepted, refused or completed.
 use output::print;
+use output::print_error;
 use output::print_error_of;
 
 fn print_help() {
@@ -62,9 +63,6 @@ in one line on standard error that begins with error. The exit status is always 
 }
 
 fn is_help(word: &[u8]) -> bool {
-    if word.len() == 0 {
-        return true;
-    }
     if check::same(word, b"help") {
         return true;
     }
@@ -90,6 +88,14 @@ fn asks_help() -> bool {
     false
 }
 
+fn print_unknown(word: &[u8]) {
+    if word.len() == 0 {
+        print_error(b"unknown command: lilivrez help lists what there is");
+        return;
+    }
+    print_error_of(word, b"unknown command: lilivrez help lists what there is");
+}
+
 fn run_command(word: &[u8]) {
     if is_help(word) {
         print_help();
@@ -111,10 +117,15 @@ fn run_command(word: &[u8]) {
         command_frames::command::run();
         return;
     }
-    print_error_of(word, b"unknown command: lilivrez help lists what there is");
+    print_unknown(word);
 }
 
+// An empty word is one that is longer than the buffer too.
 fn main() {
+    if os::arg_count() < 2 {
+        print_help();
+        return;
+    }
     let mut word = io::buffer();
     let n = os::arg(1, &mut word);
     run_command(&word[..n]);

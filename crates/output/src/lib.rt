@@ -2,10 +2,6 @@
 use libc::STDERR_FILENO;
 use libc::STDOUT_FILENO;
 
-pub fn print(text: &[u8]) {
-    io::write_all(STDOUT_FILENO, text);
-}
-
 fn print_aside(text: &[u8]) {
     io::write_all(STDERR_FILENO, text);
 }
@@ -15,6 +11,15 @@ pub fn print_error(why: &[u8]) {
     print_aside(b"error: ");
     print_aside(why);
     print_aside(b"\n");
+}
+
+// Where standard output takes no more (a full disk), one error says so. A program cannot end here, so standard error is closed behind it: else every later line would
+// bring the same error.
+pub fn print(text: &[u8]) {
+    if !io::write_all(STDOUT_FILENO, text) {
+        print_error(b"standard output cannot be written");
+        libc::close(STDERR_FILENO);
+    }
 }
 
 // error: NAME: WHY
