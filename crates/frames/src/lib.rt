@@ -116,11 +116,11 @@ pub fn record_size(bytes: &[u8]) -> usize
         return 0;
     }
     let mark = bytes[0];
-    if mark == 0x4d {
-        return memory_size(bytes);
-    }
     if mark == 0x56 {
         return variable_size(bytes);
+    }
+    if mark == 0x4d {
+        return memory_size(bytes);
     }
     0
 }

@@ -18,17 +18,17 @@ returns c = let d = List·getD-eq-default (now (c .before .before .args .bytes))
 shared-slice-read-mark : tie.Need-shared-slice-read-mark
 shared-slice-read-mark c = search needs
 
-memory-size-requires : tie.Need-memory-size-requires
-memory-size-requires c κs = search needs
-
-returns-2 : tie.Need-returns-2
-returns-2 c = c .memory-size .ensures ∙ sym (ap sizeOf (memory-mark _ (omega arith)))
-
 variable-size-requires : tie.Need-variable-size-requires
 variable-size-requires c κs = search needs
 
+returns-2 : tie.Need-returns-2
+returns-2 c = c .variable-size .ensures ∙ sym (ap sizeOf (variable-mark _ (omega arith)))
+
+memory-size-requires : tie.Need-memory-size-requires
+memory-size-requires c κs = search needs
+
 returns-3 : tie.Need-returns-3
-returns-3 c = c .variable-size .ensures ∙ sym (ap sizeOf (variable-mark _ (omega arith)))
+returns-3 c = c .memory-size .ensures ∙ sym (ap sizeOf (memory-mark _ (omega arith)))
 
 returns-4 : tie.Need-returns-4
 returns-4 c = other-mark _ (λ e. omega arith) (λ e. omega arith)
@@ -39,8 +39,8 @@ record-size-spec =
     (tie.spec
     returns
     shared-slice-read-mark
-    memory-size-requires
-    returns-2
     variable-size-requires
+    returns-2
+    memory-size-requires
     returns-3
     returns-4)
