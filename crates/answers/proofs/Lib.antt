@@ -4,3 +4,4 @@ mod Answering
 mod Rows
 mod Sizes
 mod Columns
+mod Back

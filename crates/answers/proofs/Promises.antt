@@ -5,11 +5,13 @@ use mathlib.Core.List.{List, _++_}
 use mathlib.Core.Path.{_≡_}
 use lib.ListN.{length, take, getD}
 use Rattle.report.specs.Text.{bytesOf, Appends}
-use Rattle.verifier.specs.Verdict.{verdict}
+use Rattle.verifier.specs.Verdict.{accepted, verdict}
+use Rattle.listing.specs.Listing.{bytes, readText}
 use Rattle.heights.specs.Arrivals.{ArrivalsBy}
 use Rattle.machine.specs.Machine.{Answer}
 use Rattle.answers.specs.Listed.{answerText}
 use Rattle.answers.specs.Outcome.{isNarrow, completedText, IsWords}
+use Rattle.answers.proofs.Back as back
 use Rattle.answers.proofs.Columns as columns
 use Rattle.answers.proofs.Sizes as sizes
 
@@ -29,3 +31,8 @@ module _ (e : List ℕ) (low : (j : ℕ) → getD e j 0 < 256) (size : length e 
   pub answer-whole : (b b' : List ℕ) (n : ℕ) → 98304 ≤ length b' → Appends b 0 (answerText e (verdict e) hs listed) b' n
       → take n b' ≡ answerText e (verdict e) hs listed
   answer-whole = sizes.answer-whole e low size hs r listed
+
+-- ---- what `verify --list` prints of an accepted expression is read back as its bytes, whatever heights stand beside the instructions
+pub answer-read-back : (e : List ℕ) → ((j : ℕ) → getD e j 0 < 256) → {n g l : ℕ} → verdict e ≡ accepted n g l → (hs : List ℕ)
+    → readText (answerText e (accepted n g l) hs true) ≡ bytes e
+answer-read-back e low q hs = back.answer-back e low q hs
