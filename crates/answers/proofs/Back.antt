@@ -1,5 +1,5 @@
 -- What `verify --list` prints of an accepted expression is read back as its bytes. Assumes nothing.
-use Prim.Native.Nat.{ℕ, _+_, _-_, _^_, _≤_, _<_}
+use Prim.Native.Nat.{ℕ, zero, suc, _+_, _-_, _/_, _%_, _≤_, _<_}
 use native.Mathlib.Omega.{arith}
 use native.Mathlib.Decide.{ℕ-discrete}
 use mathlib.Core.Bool.{Bool, true, false, cond}
@@ -9,13 +9,15 @@ use lib.Dec.{eqb}
 use lib.ListN.{length, take, drop, getD, replicate, drop-of-length-le}
 use borrow.Author.Tests.{eq-eqb, ne-eqb, eqb-false, ltb-false, lt-ltb, le-ltb, le-leb}
 use Rattle.encoding.proofs.Promises.{cases, none-holds}
+use Rattle.io.specs.Digits.{glyph}
+use Rattle.report.specs.Hex.{hexOf}
 use Rattle.report.specs.Text.{bytesOf}
 use Rattle.report.proofs.Promises.{append-nil, append-assoc}
 use Rattle.isa.specs.Classes.{kind-unsupported}
 use Rattle.isa.specs.Decode.{kindAt, next}
 use Rattle.isa.specs.Starts.{startsFrom}
 use Rattle.isa.proofs.Promises.{by-starts, from-end, from-next}
-use Rattle.verifier.specs.Fault.{Fault, none, fault, first}
+use Rattle.verifier.specs.Fault.{none, fault, first}
 use Rattle.verifier.specs.Pass1.{tests1, fault1}
 use Rattle.verifier.specs.Verdict.{accepted, verdict}
 use Rattle.verifier.proofs.Promises.{accepted-means}
@@ -26,9 +28,10 @@ use Rattle.listing.specs.Meant.{headings, isHeading}
 use Rattle.listing.specs.Listing.{bytes, readLines, linesOf, readText}
 use Rattle.listing.proofs.Promises.{Feedless, feedless-append, feedless-number, heading-then, row-then}
 use Rattle.phrases.specs.Numbers.{countText}
+use Rattle.answers.specs.Bytes.{bytesLine, bytesLines, bytesText}
+use Rattle.answers.specs.Listed.{gapText, besideText, rowText, firstOf, answerText}
 use Rattle.answers.specs.Verdict.{acceptedText, verdictText, heightText}
-use Rattle.answers.specs.Listed.{gapText, besideText, rowText, isListed, firstOf, listedFrom, rowsFrom, answerText}
-use Rattle.answers.proofs.Rows.{row-accepted, listed-low, rows-next}
+use Rattle.answers.proofs.Rows.{row-accepted, listed-low, rowsFrom, rows-all, rows-next}
 
 -- ---- the first line
 chosen : (b : Bool) (x y : List ℕ) → Feedless x → Feedless y → Feedless (cond b x y)
@@ -95,13 +98,50 @@ module _ (e : List ℕ) (i : ℕ) (h : i < length e) where
       let w = ltb-false (length e) (next e i) (p .1 .1 .0) in
       (rw (lt-ltb i (length e) h, lt-ltb kind-unsupported (kindAt e i) s, le-leb (next e i) (length e) w), w)
 
+-- ---- a text that says nothing at offset i: none, and the lines of bytes
+abbrev Silent : ℕ → List ℕ → Type 0
+Silent i t = (m : ℕ) → readLines m i (linesOf t) ≡ bytes []
+
+silent-none : (i : ℕ) → Silent i []
+unfolding readLines linesOf
+silent-none i m = refl
+
+silent-chosen : (i : ℕ) (b : Bool) (x y : List ℕ) → Silent i x → Silent i y → Silent i (cond b x y)
+silent-chosen i true x y p q = p
+silent-chosen i false x y p q = q
+
+digit-feedless : (d : ℕ) → Feedless (glyph d ∷ [])
+digit-feedless d =
+    cases d 10
+    (λ h. rw (lt-ltb d 10 h, ne-eqb (48 + d) 10 (λ z. omega (arith, z))) tt)
+    (λ h. rw (le-ltb d 10 h, ne-eqb (87 + d) 10 (λ z. omega (arith, z))) tt)
+
+hex-feedless : (l : List ℕ) → Feedless (hexOf l)
+unfolding hexOf
+hex-feedless [] = tt
+hex-feedless (b ∷ l) =
+    feedless-append (glyph (b / 16) ∷ []) (glyph (b % 16) ∷ hexOf l) (digit-feedless (b / 16))
+    (feedless-append (glyph (b % 16) ∷ []) (hexOf l) (digit-feedless (b % 16)) (hex-feedless l))
+
+silent-line : (i : ℕ) (l r : List ℕ) → Silent i r → Silent i (bytesLine l ++ r)
+unfolding bytesLine isHeading headings
+silent-line i l r p m =
+    heading-then (bytesOf "bytes " ++ hexOf l) (feedless-append (bytesOf "bytes ") (hexOf l) tt (hex-feedless l)) refl m i r [] (p (m + 1))
+
+silent-lines : (i n : ℕ) (l : List ℕ) → Silent i (bytesLines n l)
+unfolding bytesLines
+silent-lines i zero l = silent-none i
+silent-lines i (suc n) l =
+    let r = bytesLines n (drop 40 l) in
+    silent-chosen i (eqb (length l) 0) [] (bytesLine (take 40 l) ++ r) (silent-none i) (silent-line i (take 40 l) r (silent-lines i n (drop 40 l)))
+
 -- ---- the rows from offset i on, and then a text t that says nothing
-module _ (e : List ℕ) (low : (j : ℕ) → getD e j 0 < 256) (short : length e ≤ 1024) (hs t : List ℕ) (silent : (m : ℕ) → readLines m (length e) (linesOf t) ≡ bytes []) where
+module _ (e : List ℕ) (low : (j : ℕ) → getD e j 0 < 256) (short : length e ≤ 1024) (hs t : List ℕ) (silent : Silent (length e) t) where
   abbrev Back : ℕ → Type 0
   Back i = i ≤ length e → first (fault1 e) (startsFrom e i) ≡ none → (m : ℕ) → readLines m i (linesOf (rowsFrom e hs true i ++ t)) ≡ bytes (drop i e)
 
   back-end : (i : ℕ) → length e ≤ i → Back i
-  unfolding rowsFrom listedFrom firstOf
+  unfolding rowsFrom firstOf
   back-end i h g q m =
       let s : i ≡ length e = omega arith in
       let z : rowsFrom e hs true i ≡ [] = rw (from-end e i h) in
@@ -114,7 +154,8 @@ module _ (e : List ℕ) (low : (j : ℕ) → getD e j 0 < 256) (short : length e
       let l = textAt e k in
       let n = length l - 1 in
       let h = getD hs k 0 in
-      sym (row-accepted e true h k refl) ∙ ap (λ (b : List ℕ). take n l ++ b ++ heightText h) (gap-spaces n .1) ∙ ap (λ (b : List ℕ). take n l ++ replicate (gap-spaces n .0) 32 ++ b) (height-comment h .1)
+      sym (row-accepted e true h k refl) ∙ ap (λ (b : List ℕ). take n l ++ b ++ heightText h) (gap-spaces n .1)
+      ∙ ap (λ (b : List ℕ). take n l ++ replicate (gap-spaces n .0) 32 ++ b) (height-comment h .1)
 
   back-next : (i : ℕ) → i < length e → Back (next e i) → Back i
   back-next i h b g q m =
@@ -134,14 +175,18 @@ module _ (e : List ℕ) (low : (j : ℕ) → getD e j 0 < 256) (short : length e
 -- ---- the whole answer
 module _ (e : List ℕ) (low : (j : ℕ) → getD e j 0 < 256) {n g l : ℕ} (q : verdict e ≡ accepted n g l) (hs : List ℕ) where
   -- and then a text t that says nothing
-  pub answer-then : (t : List ℕ) → ((m : ℕ) → readLines m (length e) (linesOf t) ≡ bytes []) → readText (answerText e (accepted n g l) hs true ++ t) ≡ bytes e
+  answer-then : (t : List ℕ) → Silent (length e) t → readText (answerText e (accepted n g l) hs true ++ t) ≡ bytes e
   unfolding readText verdictText answerText
   answer-then t silent =
       let a = accepted-means e q .acceptable in
       let r = rowsFrom e hs true 0 in
-      ap (λ (x : List ℕ). readLines 1 0 (linesOf x)) (append-assoc (acceptedText n g l) r t)
+      let f = acceptedText n g l in
+      ap (λ (x : List ℕ). readLines 1 0 (linesOf (f ++ x ++ t))) (sym (rows-all e hs true)) ∙ ap (λ (x : List ℕ). readLines 1 0 (linesOf x)) (append-assoc f r t)
       ∙ accepted-then n g l 1 0 (r ++ t) e (rows-back e low (a .short) hs t silent 0 (omega arith) (a .decodes) 2)
 
   pub answer-back : readText (answerText e (accepted n g l) hs true) ≡ bytes e
-  unfolding readLines linesOf
-  answer-back = ap readText (sym (append-nil (answerText e (accepted n g l) hs true))) ∙ answer-then [] (λ m. refl)
+  answer-back = ap readText (sym (append-nil (answerText e (accepted n g l) hs true))) ∙ answer-then [] (silent-none (length e))
+
+  pub answer-bytes-back : readText (answerText e (accepted n g l) hs true ++ bytesText e) ≡ bytes e
+  unfolding bytesText
+  answer-bytes-back = answer-then (bytesText e) (silent-lines (length e) (length e) e)

@@ -1,5 +1,5 @@
 -- What users of `answers` may cite. The contracts of src/ are the rest: each function appends the text that specs/ defines.
-use Prim.Native.Nat.{ℕ, _^_, _≤_, _<_}
+use Prim.Native.Nat.{ℕ, _+_, _*_, _/_, _^_, _≤_, _<_}
 use mathlib.Core.Bool.{Bool, true, false}
 use mathlib.Core.List.{List, _++_}
 use mathlib.Core.Path.{_≡_}
@@ -9,10 +9,12 @@ use Rattle.verifier.specs.Verdict.{accepted, verdict}
 use Rattle.listing.specs.Listing.{bytes, readText}
 use Rattle.heights.specs.Arrivals.{ArrivalsBy}
 use Rattle.machine.specs.Machine.{Answer}
+use Rattle.answers.specs.Bytes.{bytesText}
 use Rattle.answers.specs.Listed.{answerText}
 use Rattle.answers.specs.Outcome.{isNarrow, completedText, IsWords}
 use Rattle.answers.proofs.Back as back
 use Rattle.answers.proofs.Columns as columns
+use Rattle.answers.proofs.Lines as lines
 use Rattle.answers.proofs.Sizes as sizes
 
 -- ---- the answer of a completed run, whose numbers are words of 64 bits, is a line of at most 100 columns, or two
@@ -32,7 +34,15 @@ module _ (e : List ℕ) (low : (j : ℕ) → getD e j 0 < 256) (size : length e 
       → take n b' ≡ answerText e (verdict e) hs listed
   answer-whole = sizes.answer-whole e low size hs r listed
 
+-- the bytes of an expression: two characters a byte, and seven more for each line of 40
+pub bytes-length : (e : List ℕ) → length (bytesText e) ≡ 2 * length e + 7 * ((length e + 39) / 40)
+bytes-length = lines.bytes-length
+
 -- ---- what `verify --list` prints of an accepted expression is read back as its bytes, whatever heights stand beside the instructions
-pub answer-read-back : (e : List ℕ) → ((j : ℕ) → getD e j 0 < 256) → {n g l : ℕ} → verdict e ≡ accepted n g l → (hs : List ℕ)
-    → readText (answerText e (accepted n g l) hs true) ≡ bytes e
-answer-read-back e low q hs = back.answer-back e low q hs
+module _ (e : List ℕ) (low : (j : ℕ) → getD e j 0 < 256) {n g l : ℕ} (q : verdict e ≡ accepted n g l) (hs : List ℕ) where
+  pub answer-read-back : readText (answerText e (accepted n g l) hs true) ≡ bytes e
+  answer-read-back = back.answer-back e low q hs
+
+  -- and with the lines of its bytes, which `--from-gdb` prints behind it
+  pub answer-bytes-read-back : readText (answerText e (accepted n g l) hs true ++ bytesText e) ≡ bytes e
+  answer-bytes-read-back = back.answer-bytes-back e low q hs

@@ -2,7 +2,7 @@
 use Prim.Native.Nat.{ℕ, _+_, _-_, _^_, _≤_, _<_}
 use native.Mathlib.Omega.{arith}
 use mathlib.Core.Bool.{Bool, true, false, _&&_}
-use mathlib.Core.List.{List, [], _∷_, _++_}
+use mathlib.Core.List.{List, [], _∷_, _++_, map}
 use mathlib.Core.Logic.{⊎-elim}
 use mathlib.Core.Path.{_≡_, refl, sym, ap, _∙_}
 use types.Run.{OneOf}
@@ -19,11 +19,12 @@ use Rattle.isa.specs.Starts.{startsFrom}
 use Rattle.isa.proofs.Promises.{from-end, from-next}
 use Rattle.verifier.specs.Verdict.{Verdict}
 use Rattle.listing.specs.Text.{textAt, isInstruction, writtenAnswer, writtenLeft}
+use Rattle.listing.specs.Listing.{joined}
 use Rattle.listing.specs.declared.writing.Written.{Written}
 use Rattle.listing.specs.declared.writing.Written.the-variants.{Text}
 use Rattle.listing.proofs.Promises.{text-length, instruction-inside}
 use Rattle.answers.specs.Verdict.{verdictText, heightText}
-use Rattle.answers.specs.Listed.{gapText, besideText, rowText, isListed, firstOf, listedFrom, rowsFrom, isAccepted, answerText}
+use Rattle.answers.specs.Listed.{gapText, besideText, rowText, isListed, firstOf, listedText, isAccepted, answerText}
 
 -- ---- blanks
 pub gap-long : (n : ℕ) → n < 35 → take (36 - n) (drop n (replicate {A = ℕ} 36 32)) ≡ gapText n
@@ -103,14 +104,21 @@ listed e k q =
     let b = both (ltb k 1024) (isInstruction e k) q in
     record { low = ltb-true k 1024 (b .0); whole = b .1; inside = instruction-inside e k (b .1) }
 
--- ---- the rows from an offset on: one, and the rest; or none
+-- ---- the rows of the starts from an offset on: one, and the rest; or none
+unfoldable pub rowsFrom : List ℕ → List ℕ → Bool → ℕ → List ℕ
+rowsFrom e hs a i = joined (map (λ k. rowText e a (getD hs k 0) k) (firstOf (isListed e) (startsFrom e i)))
+
+pub rows-all : (e hs : List ℕ) (a : Bool) → rowsFrom e hs a 0 ≡ listedText e hs a
+unfolding rowsFrom listedText
+rows-all e hs a = refl
+
 module _ (e hs : List ℕ) (a : Bool) (k : ℕ) where
   pub rows-next : isListed e k ≡ true → rowText e a (getD hs k 0) k ++ rowsFrom e hs a (next e k) ≡ rowsFrom e hs a k
-  unfolding rowsFrom listedFrom firstOf
+  unfolding rowsFrom firstOf
   rows-next q = rw (from-next e k (listed e k q .inside), q)
 
   pub rows-end : isListed e k ≡ false → [] ≡ rowsFrom e hs a k
-  unfolding rowsFrom listedFrom firstOf
+  unfolding rowsFrom firstOf
   rows-end q = cases k (length e) (λ h. rw (from-next e k h, q)) (λ h. rw (from-end e k h))
 
 -- ---- the whole answer, by the verdict v that the code has
@@ -119,6 +127,6 @@ module _ (e hs : List ℕ) (v w : Verdict) (is : v ≡ w) (b : Bool) where
   unfolding answerText
   answer-alone q = rw (q, is) (sym (append-nil (verdictText e w)))
 
-  pub answer-listed : b ≡ true → (a : Bool) → a ≡ isAccepted v → verdictText e v ++ rowsFrom e hs a 0 ≡ answerText e w hs b
+  pub answer-listed : b ≡ true → (a : Bool) → a ≡ isAccepted v → verdictText e v ++ listedText e hs a ≡ answerText e w hs b
   unfolding answerText
   answer-listed q a p = rw (q, p, is)

@@ -5,7 +5,7 @@ use native.Mathlib.Omega.{arith}
 use native.Mathlib.Decide.{ℕ-discrete}
 use mathlib.Core.Bool.{Bool, true, false, cond, _&&_}
 use mathlib.Core.List.{List, [], _∷_, _++_}
-use mathlib.Core.Path.{_≡_, refl, sym, ap, _∙_}
+use mathlib.Core.Path.{_≡_, refl, ap, _∙_}
 use lib.Dec.{T, leb, eqb, leb→le}
 use lib.ListN.{length, take, getD, replicate, length-append, length-replicate, getD-replicate, List·getD-eq-default}
 use lib.Seq.{take-all, length-take-le}
@@ -17,7 +17,7 @@ use Rattle.report.specs.Text.{bytesOf, Appends}
 use Rattle.report.proofs.Promises.{text-start}
 use Rattle.isa.specs.Classes.{classOf, kind, kind-unknown, kind-unsupported}
 use Rattle.isa.specs.Decode.{next}
-use Rattle.isa.specs.Starts.{starts, startsFrom}
+use Rattle.isa.specs.Starts.{startsFrom}
 use Rattle.isa.specs.Walk.{Walk, stop, step}
 use Rattle.isa.proofs.Promises.{by-starts, from-end, from-next, start-in, walk-last, weigh-one}
 use Rattle.verifier.specs.Acceptance.{Accepted, Broken, heights-differ, too-few, too-many, runs-on, Justified, of-size, of-pass1, of-pass2, of-pass3}
@@ -32,8 +32,8 @@ use Rattle.phrases.specs.Numbers.{countText}
 use Rattle.phrases.specs.Refused.{refusedAt}
 use Rattle.phrases.proofs.Promises.{count-length}
 use Rattle.answers.specs.Verdict.{acceptedText, unsupportedName, knownName, opcodeText, thereText, instructionOf, refusedLine, verdictText, heightText}
-use Rattle.answers.specs.Listed.{gapText, besideText, rowText, isListed, rowsFrom, isAccepted, answerText}
-use Rattle.answers.proofs.Rows.{listed, rows-next, rows-end}
+use Rattle.answers.specs.Listed.{gapText, besideText, rowText, isListed, listedText, isAccepted, answerText}
+use Rattle.answers.proofs.Rows.{listed, rowsFrom, rows-all, rows-next, rows-end}
 
 chosen : (b : Bool) (m : ℕ) (x y : List ℕ) → length x ≤ m → length y ≤ m → length (cond b x y) ≤ m
 chosen true m x y h g = h
@@ -252,8 +252,10 @@ module _ (e : List ℕ) (low : (j : ℕ) → getD e j 0 < 256) (size : length e 
   unfolding answerText
   answer-length =
       let v = verdictText e (verdict e) in
-      let l = rowsFrom e hs (isAccepted (verdict e)) 0 in
-      let c = chosen listed 95232 l [] (omega (arith, rows-length e low hs (cells-low e (verdict e) refl hs r) (isAccepted (verdict e)) 0)) (omega arith) in
+      let a = isAccepted (verdict e) in
+      let l = listedText e hs a in
+      let n : length l ≤ 95232 = omega (arith, ap length (rows-all e hs a), rows-length e low hs (cells-low e (verdict e) refl hs r) a 0) in
+      let c = chosen listed 95232 l [] n (omega arith) in
       omega (arith, verdict-length e low size (verdict e) refl, c, length-append v (cond listed l []))
 
   pub answer-whole : (b b' : List ℕ) (n : ℕ) → 98304 ≤ length b' → Appends b 0 (answerText e (verdict e) hs listed) b' n

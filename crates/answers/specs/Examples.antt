@@ -6,6 +6,7 @@ use Rattle.encoding.specs.BigEndian.{bigEndian}
 use Rattle.isa.specs.Classes.{opcodes, classOf}
 use Rattle.isa.specs.Decode.{operand}
 use Rattle.isa.specs.Starts.{startsAtMost, startsFrom}
+use Rattle.report.specs.Hex.{hexOf}
 use Rattle.report.specs.Text.{bytesOf}
 use Rattle.verifier.specs.Verdict.{accepted, refused}
 use Rattle.listing.specs.Names.{names, nameOf}
@@ -16,7 +17,8 @@ use Rattle.runner.specs.Returned.{completedWith, refusedWith}
 use Rattle.phrases.specs.Numbers.{countText, hexText, significant, valueText}
 use Rattle.phrases.specs.Refused.{refusedAt}
 use Rattle.answers.specs.Verdict.{acceptedText, unsupportedName, knownName, opcodeText, thereText, instructionOf, refusedLine, verdictText, heightText}
-use Rattle.answers.specs.Listed.{gapText, besideText, rowText, isListed, firstOf, listedFrom, rowsFrom, answerText}
+use Rattle.answers.specs.Listed.{gapText, besideText, rowText, isListed, firstOf, listedText, answerText}
+use Rattle.answers.specs.Bytes.{bytesLine, bytesLines, bytesText}
 use Rattle.answers.specs.Outcome.{stepsText, cellsText, completedBy, isNarrow, completedText, isOfInstruction, instructionLine, refusedText, outcomeText, changeText, bufferText}
 
 an-accepted : verdictText (0x22 ∷ 0x05 ∷ 0x22 ∷ 0x03 ∷ 0x02 ∷ 0x27 ∷ []) (accepted 4 2 4) ≡ bytesOf "accepted: 4 instructions, greatest height 2, longest walk 4\n"
@@ -52,13 +54,17 @@ some-heights = refl
 -- with heights; of a refused expression without, up to the instruction that is not whole
 a-listing : answerText (0x22 ∷ 0x05 ∷ 0x27 ∷ []) (accepted 2 1 2) (0 ∷ 0 ∷ 1 ∷ []) true
     ≡ bytesOf "accepted: 2 instructions, greatest height 1, longest walk 2\n  0  const8 5                       # height 0\n  2  end                            # height 1\n"
-unfolding bigEndian opcodes classOf operand startsAtMost startsFrom names nameOf decimalBy decimal signed aligned operandText textOf textAt isInstruction countText acceptedText verdictText heightText gapText besideText rowText isListed firstOf listedFrom rowsFrom answerText
+unfolding bigEndian opcodes classOf operand startsAtMost startsFrom names nameOf decimalBy decimal signed aligned operandText textOf textAt isInstruction countText acceptedText verdictText heightText gapText besideText rowText isListed firstOf listedText answerText
 a-listing = refl
 
 a-refused-listing : answerText (0x28 ∷ 0x23 ∷ 0x01 ∷ []) (refused 4 1) [] true
     ≡ bytesOf "refused 4 at offset 1 (const16): the expression ends inside this instruction\n  0  dup\n"
-unfolding opcodes classOf startsAtMost startsFrom names nameOf decimalBy decimal aligned operandText textOf textAt isInstruction refusedAt knownName opcodeText thereText instructionOf refusedLine verdictText rowText isListed firstOf listedFrom rowsFrom answerText
+unfolding opcodes classOf startsAtMost startsFrom names nameOf decimalBy decimal aligned operandText textOf textAt isInstruction refusedAt knownName opcodeText thereText instructionOf refusedLine verdictText rowText isListed firstOf listedText answerText
 a-refused-listing = refl
+
+some-bytes : bytesText (0x22 ∷ 0x05 ∷ 0x27 ∷ []) ≡ bytesOf "bytes 220527\n"
+unfolding hexOf bytesLine bytesLines bytesText
+some-bytes = refl
 
 -- no value, the top, the top and the cell beneath
 completed-runs :

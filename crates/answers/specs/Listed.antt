@@ -5,7 +5,7 @@ use mathlib.Core.List.{List, [], _∷_, _++_, map}
 use lib.Dec.{ltb}
 use lib.ListN.{length, take, getD, replicate}
 use Rattle.report.specs.Text.{bytesOf}
-use Rattle.isa.specs.Starts.{startsFrom}
+use Rattle.isa.specs.Starts.{starts}
 use Rattle.verifier.specs.Verdict.{Verdict, accepted, refused}
 use Rattle.listing.specs.Text.{textAt, isInstruction}
 use Rattle.listing.specs.Listing.{joined}
@@ -32,19 +32,13 @@ unfoldable pub firstOf : (ℕ → Bool) → List ℕ → List ℕ
 firstOf p [] = []
 firstOf p (k ∷ ks) = cond (p k) (k ∷ firstOf p ks) []
 
--- the starts from offset i on that have a row, in rising order: up to the first that has none
-unfoldable pub listedFrom : List ℕ → ℕ → List ℕ
-listedFrom e i = firstOf (isListed e) (startsFrom e i)
-
+-- the starts with a row, in rising order: up to the first that has none
 abbrev pub listedStarts : List ℕ → List ℕ
-listedStarts e = listedFrom e 0
+listedStarts e = firstOf (isListed e) (starts e)
 
 -- their rows, where hs has a cell for each offset
-unfoldable pub rowsFrom : List ℕ → List ℕ → Bool → ℕ → List ℕ
-rowsFrom e hs a i = joined (map (λ k. rowText e a (getD hs k 0) k) (listedFrom e i))
-
-abbrev pub listedText : List ℕ → List ℕ → Bool → List ℕ
-listedText e hs a = rowsFrom e hs a 0
+unfoldable pub listedText : List ℕ → List ℕ → Bool → List ℕ
+listedText e hs a = joined (map (λ k. rowText e a (getD hs k 0) k) (listedStarts e))
 
 abbrev pub isAccepted : Verdict → Bool
 isAccepted (accepted n g l) = true

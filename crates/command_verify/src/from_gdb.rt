@@ -31,30 +31,16 @@ fn print_fault(fault: Fault, line: u64, column: u64) {
     }
 }
 
-fn print_part(part: &[u8]) {
-    let mut line = [0u8; 100];
-    let a = report::text::append(&mut line, 0, b"bytes ");
-    let b = report::hex::encode(&mut line, a, part);
-    let n = report::text::append(&mut line, b, b"\n");
-    print(&line[..n]);
-}
-
-// In hexadecimal, 40 bytes a line.
+// The buffer has room for the lines of 65,536 bytes (`bytes-length`, on the page of `answers`).
 fn print_bytes(code: &[u8]) {
-    let mut at = 0;
-    while 40 < code.len() - at {
-        let next = at + 40;
-        print_part(&code[at..next]);
-        at = next;
-    }
-    print_part(&code[at..]);
+    let mut text = files::mebibyte_buffer();
+    let n = answers::bytes::append_bytes(&mut text, 0, code);
+    print(&text[..n]);
 }
 
 fn print_answer(code: &[u8], is_listed: bool) {
     answer(code, is_listed);
-    if 0 < code.len() {
-        print_bytes(code);
-    }
+    print_bytes(code);
 }
 
 fn read_text(text: &[u8], is_listed: bool) {

@@ -7,9 +7,9 @@ use Prim.Native.Nat.{_-_}
 use lib.ListN.{length, getD}
 use Rattle.io.specs.Counts.{Counts}
 use Rattle.isa.specs.Decode.{next}
-use Rattle.report.proofs.Promises.{Going, going-start, going-part, going-end}
-use Rattle.answers.specs.Listed.{rowText, rowsFrom}
-use Rattle.answers.proofs.Rows.{Listed, listed, rows-next, rows-end}
+use Rattle.report.proofs.Promises.{appends-same, Going, going-start, going-part, going-end}
+use Rattle.answers.specs.Listed.{rowText}
+use Rattle.answers.proofs.Rows.{Listed, listed, rowsFrom, rows-all, rows-next, rows-end}
 use Rattle.answers.proofs.listed.append_listing.Statement.{statement}
 use Rattle.answers.proofs.listed.append_listing.Tie as tie
 
@@ -69,7 +69,8 @@ returns : tie.Need-returns Inv-loop μ-loop
 returns c =
     let s = c .before .before .before .before .before in
     let e = now (s .args .code) in
-    (c .before .before .loop .inv .1, going-end (c .before .before .loop .inv .0) (rows-end e _ _ _ (sym (c .before .is-row .ensures) ∙ c .if1 .left)))
+    let g = going-end (c .before .before .loop .inv .0) (rows-end e _ _ _ (sym (c .before .is-row .ensures) ∙ c .if1 .left)) in
+    (c .before .before .loop .inv .1, appends-same _ _ (rows-all e (now (s .args .heights)) (s .args .is-accepted)) g)
 
 pub append-listing-spec : {M : Type 1} → statement M
 append-listing-spec =

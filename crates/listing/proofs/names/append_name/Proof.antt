@@ -1,5 +1,4 @@
 use borrow.Author.Needs.{needs}
-use denote.Ref.{now}
 use mathlib.Core.Path.{refl}
 use Rattle.report.proofs.Promises.{appends-same}
 use Rattle.listing.specs.Names.{names, table}
