@@ -5,3 +5,4 @@ mod Lines
 mod Rows
 mod Sizes
 mod Columns
+mod Back

@@ -5,12 +5,14 @@ use mathlib.Core.List.{List, _++_}
 use mathlib.Core.Path.{_≡_}
 use lib.ListN.{length, take, getD}
 use Rattle.report.specs.Text.{bytesOf, Appends}
-use Rattle.verifier.specs.Verdict.{verdict}
+use Rattle.verifier.specs.Verdict.{accepted, verdict}
+use Rattle.listing.specs.Listing.{bytes, readText}
 use Rattle.heights.specs.Arrivals.{ArrivalsBy}
 use Rattle.machine.specs.Machine.{Answer}
 use Rattle.answers.specs.Bytes.{bytesText}
 use Rattle.answers.specs.Listed.{answerText}
 use Rattle.answers.specs.Outcome.{isNarrow, completedText, IsWords}
+use Rattle.answers.proofs.Back as back
 use Rattle.answers.proofs.Columns as columns
 use Rattle.answers.proofs.Lines as lines
 use Rattle.answers.proofs.Sizes as sizes
@@ -35,3 +37,12 @@ module _ (e : List ℕ) (low : (j : ℕ) → getD e j 0 < 256) (size : length e 
 -- the bytes of an expression: two characters a byte, and seven more for each line of 40
 pub bytes-length : (e : List ℕ) → length (bytesText e) ≡ 2 * length e + 7 * ((length e + 39) / 40)
 bytes-length = lines.bytes-length
+
+-- ---- what `verify --list` prints of an accepted expression is read back as its bytes, whatever heights stand beside the instructions
+module _ (e : List ℕ) (low : (j : ℕ) → getD e j 0 < 256) {n g l : ℕ} (q : verdict e ≡ accepted n g l) (hs : List ℕ) where
+  pub answer-read-back : readText (answerText e (accepted n g l) hs true) ≡ bytes e
+  answer-read-back = back.answer-back e low q hs
+
+  -- and with the lines of its bytes, which `--from-gdb` prints behind it
+  pub answer-bytes-read-back : readText (answerText e (accepted n g l) hs true ++ bytesText e) ≡ bytes e
+  answer-bytes-read-back = back.answer-bytes-back e low q hs

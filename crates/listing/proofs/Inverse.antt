@@ -191,10 +191,10 @@ digit-plain c t =
     let r = digit-range c (truth (isDigit 10 c) t) in
     rw (ne-eqb c 10 (λ z. omega (arith, r .0)), ne-eqb c 35 (λ z. omega (arith, r .0))) tt
 
-plain-digits : (n : ℕ) → T (all isPlain (decimal n))
+pub plain-digits : (n : ℕ) → T (all isPlain (decimal n))
 plain-digits n = all-by (isDigit 10) isPlain digit-plain (decimal n) (decimal-digits n)
 
-plain-spaces : (n : ℕ) → T (all isPlain (replicate n 32))
+pub plain-spaces : (n : ℕ) → T (all isPlain (replicate n 32))
 plain-spaces zero = tt
 plain-spaces (suc n) = plain-spaces n
 
@@ -210,7 +210,7 @@ plain-operand count v h =
     (λ g. subst (λ (l : List ℕ). T (all isPlain l)) (operand-some count v (λ z. omega (arith, z, g))) (plain-signed v h))
     (λ l. subst (λ (m : List ℕ). T (all isPlain m)) (operand-none count v (omega (arith, l))) tt)
 
-plain-row : (at op count v : ℕ) → GoodName op → v < 2 ^ 64 → T (all isPlain (rowText at op count v))
+pub plain-row : (at op count v : ℕ) → GoodName op → v < 2 ^ 64 → T (all isPlain (rowText at op count v))
 unfolding aligned
 plain-row at op count v good low =
     let d = decimal at in
@@ -228,7 +228,7 @@ before-front c [] m t = refl
 before-front c (x ∷ p) m t =
     rw (truth (isNot c x) (and-left (isNot c x) (all (isNot c) p) t)) (ap (λ (l : List ℕ). x ∷ l) (before-front c p m (and-right (isNot c x) (all (isNot c) p) t)))
 
-feedless : (p : List ℕ) → T (all isPlain p) → T (all (isNot 10) p)
+pub feedless : (p : List ℕ) → T (all isPlain p) → T (all (isNot 10) p)
 feedless = all-by isPlain (isNot 10) (λ c. and-left (isNot 10 c) (isNot 35 c))
 
 comment-behind : (p m : List ℕ) → T (all isPlain p) → beforeComment (p ++ m) ≡ p ++ beforeComment m
@@ -283,7 +283,7 @@ module _ (op count v : ℕ) (good : GoodName op) (is : count ≡ operandsOf op) 
       ∙ row-back (b ++ (35 ∷ t)) (subst (λ (l : List ℕ). T (all isBlank l)) (sym (m ∙ append-nil b)) (spaces n))
 
 -- the text of one line and then r
-line-divided : (a r : List ℕ) → T (all (isNot 10) a) → linesOf ((a ++ (10 ∷ [])) ++ r) ≡ (a ++ (10 ∷ [])) ∷ linesOf r
+pub line-divided : (a r : List ℕ) → T (all (isNot 10) a) → linesOf ((a ++ (10 ∷ [])) ++ r) ≡ (a ++ (10 ∷ [])) ∷ linesOf r
 unfolding linesOf
 line-divided [] r t = refl
 line-divided (c ∷ a) r t =
@@ -298,11 +298,11 @@ word-low op v h = omega (arith, h, pow-le-pow-right (lit< {m = 0} {n = 256} tt) 
 -- ---- an instruction of an expression e, whose bytes are below 256
 module _ (e : List ℕ) (low : (j : ℕ) → getD e j 0 < 256) where
   module _ (k : ℕ) (i : Instructed e k) where
-    operand-below : operand e k < 256 ^ operandBytes e k
+    pub operand-below : operand e k < 256 ^ operandBytes e k
     unfolding operand
     operand-below = big-below e (k + 1) (operandBytes e k) low
 
-    operand-low : operand e k < 2 ^ 64
+    pub operand-low : operand e k < 2 ^ 64
     operand-low = word-low (getD e k 0) (operand e k) operand-below
 
     pub instruction-back : k < 2 ^ 64 → readLine k (textAt e k) ≡ Instruction (getD e k 0) (operandBytes e k) (operand e k)
@@ -335,24 +335,30 @@ module _ (e : List ℕ) (low : (j : ℕ) → getD e j 0 < 256) where
   unfolding listingFrom readLines
   back-end i h s t n = ap (λ (l : List ℕ). readLines n i (map (textAt e) l)) (from-end e i h) ∙ ap bytes (sym (drop-of-length-le e h))
 
-  back-next : (i : ℕ) → i < length e → Back (next e i) → Back i
-  unfolding listingFrom readLines
-  back-next i h b s t m =
-      let u : T (isInstruction e i && allInstructions e (startsFrom e (next e i))) = subst (λ (l : List ℕ). T (allInstructions e l)) (from-next e i h) t in
-      let c = instructed e i (truth (isInstruction e i) (and-left (isInstruction e i) (allInstructions e (startsFrom e (next e i))) u)) in
-      let g = b s (and-right (isInstruction e i) (allInstructions e (startsFrom e (next e i))) u) (m + 1) in
+  -- a line that is meant as the instruction at i, and lines for what is behind it
+  pub line-then : (i : ℕ) → Instructed e i → (l : List ℕ) → meant i l ≡ Instruction (getD e i 0) (operandBytes e i) (operand e i)
+      → (m : ℕ) (ls : List (List ℕ)) → readLines (m + 1) (next e i) ls ≡ bytes (drop (next e i) e) → readLines m i (l ∷ ls) ≡ bytes (drop i e)
+  unfolding readLines
+  line-then i c l s m ls g =
       let n = operandBytes e i in
       let d = lineBytes (Instruction (getD e i 0) n (operand e i)) in
       let z : d ≡ take (1 + n) (drop i e) = instruction-bytes i c in
       let y : i + length d ≡ next e i = omega (arith, length-big n (operand e i)) in
       let q : i + (1 + n) ≡ next e i = omega arith in
       let x : drop (1 + n) (drop i e) ≡ drop (next e i) e = drop-drop (1 + n) i e ∙ ap (λ (j : ℕ). drop j e) q in
-      let r = map (textAt e) (startsFrom e (next e i)) in
-      ap (λ (l : List ℕ). readLines m i (map (textAt e) l)) (from-next e i h)
-      ∙ ap (λ (l : Line). thenLines m l (λ a. afterBytes a (readLines (m + 1) (i + length a) r))) (instruction-meant i c (omega (arith, s, h)))
-      ∙ ap (λ (j : ℕ). afterBytes d (readLines (m + 1) j r)) y
+      ap (λ (k : Line). thenLines m k (λ a. afterBytes a (readLines (m + 1) (i + length a) ls))) s
+      ∙ ap (λ (j : ℕ). afterBytes d (readLines (m + 1) j ls)) y
       ∙ ap (afterBytes d) g
-      ∙ ap bytes (ap (λ (l : List ℕ). l ++ drop (next e i) e) z ∙ ap (λ (l : List ℕ). take (1 + n) (drop i e) ++ l) (sym x) ∙ take-append-drop (1 + n) (drop i e))
+      ∙ ap bytes (ap (λ (k : List ℕ). k ++ drop (next e i) e) z ∙ ap (λ (k : List ℕ). take (1 + n) (drop i e) ++ k) (sym x) ∙ take-append-drop (1 + n) (drop i e))
+
+  back-next : (i : ℕ) → i < length e → Back (next e i) → Back i
+  unfolding listingFrom
+  back-next i h b s t m =
+      let u : T (isInstruction e i && allInstructions e (startsFrom e (next e i))) = subst (λ (l : List ℕ). T (allInstructions e l)) (from-next e i h) t in
+      let c = instructed e i (truth (isInstruction e i) (and-left (isInstruction e i) (allInstructions e (startsFrom e (next e i))) u)) in
+      let g = b s (and-right (isInstruction e i) (allInstructions e (startsFrom e (next e i))) u) (m + 1) in
+      ap (λ (l : List ℕ). readLines m i (map (textAt e) l)) (from-next e i h)
+      ∙ line-then i c (textAt e i) (instruction-meant i c (omega (arith, s, h))) m (map (textAt e) (startsFrom e (next e i))) g
 
   pub listing-back : (i : ℕ) → length e < 2 ^ 64 → T (allInstructions e (startsFrom e i)) → (n : ℕ) → readLines n i (listingFrom e i) ≡ bytes (drop i e)
   listing-back = by-starts e Back back-end back-next

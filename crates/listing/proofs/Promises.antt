@@ -2,7 +2,7 @@
 use mathlib.Core.Bool.{true}
 use mathlib.Core.List.{List, [], _∷_, _++_}
 use mathlib.Core.Path.{_≡_, refl, sym, ap, _∙_}
-use Prim.Native.Nat.{ℕ, _+_, _^_, _≤_, _<_}
+use Prim.Native.Nat.{ℕ, _+_, _-_, _^_, _≤_, _<_}
 use lib.Dec.{T}
 use lib.ListN.{length, take, drop, getD, replicate}
 use Rattle.io.specs.Digits.{digits, Fewest}
@@ -10,23 +10,26 @@ use Rattle.report.specs.Hex.{isBlank}
 use Rattle.report.specs.Text.{Appends}
 use Rattle.encoding.specs.Written.{writtenAt}
 use Rattle.isa.specs.Classes.{kind, classOf, kind-unsupported}
-use Rattle.isa.specs.Decode.{operandBytes}
+use Rattle.isa.specs.Decode.{operandBytes, next}
 use Rattle.isa.specs.Starts.{starts}
 use Rattle.listing.specs.Names.{nameOf}
 use Rattle.listing.specs.Numbers.{decimal}
 use Rattle.listing.specs.Text.{textOf, textAt, isInstruction, plainAt}
 use Rattle.listing.specs.Line.{operandsOf, readLine, lineBytes}
-use Rattle.listing.specs.Meant.{meant}
-use Rattle.listing.specs.Listing.{listing, allInstructions, bytes, fault, readLines, listingText, readText}
+use Rattle.listing.specs.Meant.{isHeading, meant}
+use Rattle.listing.specs.Listing.{listing, allInstructions, bytes, fault, readLines, linesOf, listingText, readText}
 use Rattle.listing.specs.Whole.{outcome}
 use Rattle.listing.specs.declared.reading.Fault.{Fault}
 use Rattle.listing.specs.declared.reading.Line.the-variants.{Instruction}
 use Rattle.listing.specs.declared.whole.Whole.the-variants.{Bytes, Wrong}
+use Rattle.listing.proofs.Behind as behind
 use Rattle.listing.proofs.Decimals as decimals
 use Rattle.listing.proofs.Inverse as inverse
 use Rattle.listing.proofs.Opcodes as opcodes
 use Rattle.listing.proofs.Outcomes as outcomes
 use Rattle.listing.proofs.Texting as texting
+-- `Feedless l`: the text l has no line feed.
+pub use Rattle.listing.proofs.Behind.{Feedless}
 
 -- the text of a supported instruction with an operand that fits is read back as it
 pub text-read-back : (at op v : ℕ) → at < 2 ^ 64 → kind-unsupported < kind (classOf op) → v < 256 ^ operandsOf op
@@ -55,7 +58,25 @@ listing-read-back e low h t = inverse.listing-back e low 0 h t 1
 pub listing-text-read-back : (e : List ℕ) → ((j : ℕ) → getD e j 0 < 256) → length e < 2 ^ 64 → T (allInstructions e (starts e)) → readText (listingText e) ≡ bytes e
 listing-text-read-back e low h t = inverse.text-back e low h t
 
--- what `read_listing` answers and leaves where the text has no fault, and the buffer has room
+-- ---- a text read line by line
+pub feedless-append : (a b : List ℕ) → Feedless a → Feedless b → Feedless (a ++ b)
+feedless-append = behind.feedless-append
+
+pub feedless-number : (n : ℕ) → Feedless (decimal n)
+feedless-number = behind.feedless-number
+
+-- a heading before the text r
+pub heading-then : (l : List ℕ) → Feedless l → isHeading (l ++ (10 ∷ [])) ≡ true → (m i : ℕ) (r b : List ℕ)
+    → readLines (m + 1) i (linesOf r) ≡ bytes b → readLines m i (linesOf (l ++ (10 ∷ []) ++ r)) ≡ bytes b
+heading-then = behind.heading-then
+
+-- the text of an instruction of an expression without its line feed, n spaces and a comment t, before the text r
+pub row-then : (e : List ℕ) → ((j : ℕ) → getD e j 0 < 256) → (k : ℕ) → k < 2 ^ 64 → isInstruction e k ≡ true
+    → (n : ℕ) (t : List ℕ) → Feedless t → (m : ℕ) (r : List ℕ) → readLines (m + 1) (next e k) (linesOf r) ≡ bytes (drop (next e k) e)
+    → readLines m k (linesOf (take (length (textAt e k) - 1) (textAt e k) ++ replicate n 32 ++ ((35 ∷ t) ++ (10 ∷ [])) ++ r)) ≡ bytes (drop k e)
+row-then e low k h i = behind.row-then e low k h (texting.instructed e k i)
+
+-- ---- what `read_listing` answers and leaves where the text has no fault, and the buffer has room
 pub text-outcome : (t o b : List ℕ) → readText t ≡ bytes b → length b ≤ length o → outcome t o ≡ record { answer = Bytes (length b); left = writtenAt o 0 b }
 text-outcome = outcomes.text-right
 
