@@ -7,20 +7,19 @@ use mathlib.Core.List.{List, [], _∷_, _++_}
 use mathlib.Core.Path.{_≡_, refl, sym, ap, _∙_}
 use lib.Dec.{eqb}
 use lib.ListN.{length, take, drop, getD, replicate, drop-of-length-le}
-use borrow.Author.Tests.{eq-eqb, ne-eqb, eqb-false, ltb-false, lt-ltb, le-ltb, le-leb}
-use Rattle.encoding.proofs.Promises.{cases, none-holds}
+use borrow.Author.Tests.{eq-eqb, ne-eqb, lt-ltb, le-ltb, le-leb}
+use Rattle.encoding.proofs.Promises.{cases}
 use Rattle.io.specs.Digits.{glyph}
 use Rattle.report.specs.Hex.{hexOf}
 use Rattle.report.specs.Text.{bytesOf}
 use Rattle.report.proofs.Promises.{append-nil, append-assoc}
 use Rattle.isa.specs.Classes.{kind-unsupported}
 use Rattle.isa.specs.Decode.{kindAt, next}
-use Rattle.isa.specs.Starts.{startsFrom}
-use Rattle.isa.proofs.Promises.{by-starts, from-end, from-next}
-use Rattle.verifier.specs.Fault.{none, fault, first}
-use Rattle.verifier.specs.Pass1.{tests1, fault1}
+use Rattle.isa.specs.Starts.{isStart}
+use Rattle.isa.proofs.Promises.{by-starts, from-end, start-zero, start-in, start-next}
+use Rattle.verifier.specs.Acceptance.{Acceptable}
 use Rattle.verifier.specs.Verdict.{accepted, verdict}
-use Rattle.verifier.proofs.Promises.{accepted-means}
+use Rattle.verifier.proofs.Promises.{accepted-means, start-whole}
 use Rattle.heights.specs.Arrivals.{unreached}
 use Rattle.listing.specs.Numbers.{decimal}
 use Rattle.listing.specs.Text.{textAt, isInstruction}
@@ -76,27 +75,12 @@ height-comment h =
       | no p ↦ (bytesOf " height " ++ decimal h, rw (ne-eqb h unreached p), feedless-append (bytesOf " height ") (decimal h) tt (feedless-number h))
     ]
 
--- ---- the starts from i on, in which pass 1 finds no fault
-first-clear : (f : ℕ → ℕ) (k : ℕ) (ks : List ℕ) → first f (k ∷ ks) ≡ none → (f k ≡ 0) × (first f ks ≡ none)
-unfolding first
-first-clear f k ks q =
-    elim (ℕ-discrete (f k) 0) [
-      | yes p ↦ (p, let z : first f (k ∷ ks) ≡ first f ks = rw (eq-eqb (f k) 0 p, first) in sym z ∙ q)
-      | no p ↦ absurd (let z : first f (k ∷ ks) ≡ fault (f k) k = rw (ne-eqb (f k) 0 p, first) in let y : _≡_ {A = ℕ} 0 1 = cc in omega arith)
-    ]
-
-module _ (e : List ℕ) (i : ℕ) (h : i < length e) where
-  next-clear : first (fault1 e) (startsFrom e i) ≡ none → (fault1 e i ≡ 0) × (first (fault1 e) (startsFrom e (next e i)) ≡ none)
-  next-clear q = first-clear (fault1 e) i (startsFrom e (next e i)) (sym (ap (first (fault1 e)) (from-next e i h)) ∙ q)
-
-  -- a whole supported instruction is at i
-  clear-whole : fault1 e i ≡ 0 → (isInstruction e i ≡ true) × (next e i ≤ length e)
-  unfolding fault1 isInstruction
-  clear-whole q =
-      let p = none-holds (tests1 e i) tt q in
-      let s : kind-unsupported < kindAt e i = omega (arith, eqb-false (kindAt e i) 0 (p .0), eqb-false (kindAt e i) 1 (p .1 .0)) in
-      let w = ltb-false (length e) (next e i) (p .1 .1 .0) in
-      (rw (lt-ltb i (length e) h, lt-ltb kind-unsupported (kindAt e i) s, le-leb (next e i) (length e) w), w)
+-- ---- a start of an acceptable expression is that of an instruction
+start-instruction : (e : List ℕ) → Acceptable e → (i : ℕ) → isStart e i ≡ true → isInstruction e i ≡ true
+unfolding isInstruction
+start-instruction e a i s =
+    let w = start-whole e a i s in
+    rw (lt-ltb i (length e) (start-in e i s), lt-ltb kind-unsupported (kindAt e i) (w .0), le-leb (next e i) (length e) (w .1))
 
 -- ---- a text that says nothing at offset i: none, and the lines of bytes
 abbrev Silent : ℕ → List ℕ → Type 0
@@ -136,9 +120,9 @@ silent-lines i (suc n) l =
     silent-chosen i (eqb (length l) 0) [] (bytesLine (take 40 l) ++ r) (silent-none i) (silent-line i (take 40 l) r (silent-lines i n (drop 40 l)))
 
 -- ---- the rows from offset i on, and then a text t that says nothing
-module _ (e : List ℕ) (low : (j : ℕ) → getD e j 0 < 256) (short : length e ≤ 1024) (hs t : List ℕ) (silent : Silent (length e) t) where
+module _ (e : List ℕ) (low : (j : ℕ) → getD e j 0 < 256) (a : Acceptable e) (hs t : List ℕ) (silent : Silent (length e) t) where
   abbrev Back : ℕ → Type 0
-  Back i = i ≤ length e → first (fault1 e) (startsFrom e i) ≡ none → (m : ℕ) → readLines m i (linesOf (rowsFrom e hs true i ++ t)) ≡ bytes (drop i e)
+  Back i = i ≤ length e → (i < length e → isStart e i ≡ true) → (m : ℕ) → readLines m i (linesOf (rowsFrom e hs true i ++ t)) ≡ bytes (drop i e)
 
   back-end : (i : ℕ) → length e ≤ i → Back i
   unfolding rowsFrom firstOf
@@ -159,15 +143,15 @@ module _ (e : List ℕ) (low : (j : ℕ) → getD e j 0 < 256) (short : length e
 
   back-next : (i : ℕ) → i < length e → Back (next e i) → Back i
   back-next i h b g q m =
-      let c = next-clear e i h q in
-      let w = clear-whole e i h (c .0) in
+      let w = start-instruction e a i (q h) in
       let u = height-comment (getD hs i 0) in
       let s = rowText e true (getD hs i 0) i in
       let r = rowsFrom e hs true (next e i) in
-      ap (λ (l : List ℕ). readLines m i (linesOf (l ++ t))) (sym (rows-next e hs true i (sym (listed-low e i (omega (arith, h, short))) ∙ w .0)))
+      ap (λ (l : List ℕ). readLines m i (linesOf (l ++ t))) (sym (rows-next e hs true i (sym (listed-low e i (omega (arith, h, a .short))) ∙ w)))
       ∙ ap (λ (l : List ℕ). readLines m i (linesOf l)) (append-assoc s r t)
       ∙ ap (λ (l : List ℕ). readLines m i (linesOf (l ++ (r ++ t)))) (row-is i)
-      ∙ row-then e low i (omega (arith, h, short)) (w .0) (gap-spaces (length (textAt e i) - 1) .0) (u .0) (u .2) m (r ++ t) (b (w .1) (c .1) (m + 1))
+      ∙ row-then e low i (omega (arith, h, a .short)) w (gap-spaces (length (textAt e i) - 1) .0) (u .0) (u .2) m (r ++ t)
+      (b (start-whole e a i (q h) .1) (start-next e i (q h)) (m + 1))
 
   rows-back : (i : ℕ) → Back i
   rows-back = by-starts e Back back-end back-next
@@ -182,7 +166,7 @@ module _ (e : List ℕ) (low : (j : ℕ) → getD e j 0 < 256) {n g l : ℕ} (q 
       let r = rowsFrom e hs true 0 in
       let f = acceptedText n g l in
       ap (λ (x : List ℕ). readLines 1 0 (linesOf (f ++ x ++ t))) (sym (rows-all e hs true)) ∙ ap (λ (x : List ℕ). readLines 1 0 (linesOf x)) (append-assoc f r t)
-      ∙ accepted-then n g l 1 0 (r ++ t) e (rows-back e low (a .short) hs t silent 0 (omega arith) (a .decodes) 2)
+      ∙ accepted-then n g l 1 0 (r ++ t) e (rows-back e low a hs t silent 0 (omega arith) (start-zero e) 2)
 
   pub answer-back : readText (answerText e (accepted n g l) hs true) ≡ bytes e
   answer-back = ap readText (sym (append-nil (answerText e (accepted n g l) hs true))) ∙ answer-then [] (silent-none (length e))
