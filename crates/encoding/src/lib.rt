@@ -97,7 +97,7 @@ fn put_two(out: &mut [u8], at: usize, bytes: &[u8], width: usize)
     put_through(out, at + last, &bytes[last..]);
 }
 
-// Writes a copy of `bytes` from `at` on. A few bytes are moved in place, which costs less than a call.
+// Writes a copy of `bytes` from `at` on. A few bytes are moved in place, which costs less than a call. More than 65,536 no trace buffer has: they go one by one.
 pub fn put_bytes(out: &mut [u8], at: usize, bytes: &[u8])
     requires { ⌜ at + length (now bytes) ≤ length (now out) ⌝ }
     ensures { λ _. ⌜ now (out .exit) ≡ writtenAt (now (out .entry)) at (now (bytes .entry)) ⌝ }

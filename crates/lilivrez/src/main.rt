@@ -120,7 +120,7 @@ fn run_command(word: &[u8]) {
     print_unknown(word);
 }
 
-// An empty word is one that is longer than the buffer too.
+// The word is empty where the argument is, and where it is longer than the buffer: both are no command.
 fn main() {
     if os::arg_count() < 2 {
         print_help();
