@@ -147,10 +147,10 @@ module _ (e : List ℕ) (low : (j : ℕ) → getD e j 0 < 256) (a : Acceptable e
       let u = height-comment (getD hs i 0) in
       let s = rowText e true (getD hs i 0) i in
       let r = rowsFrom e hs true (next e i) in
-      ap (λ (l : List ℕ). readLines m i (linesOf (l ++ t))) (sym (rows-next e hs true i (sym (listed-low e i (omega (arith, h, a .short))) ∙ w)))
+      ap (λ (l : List ℕ). readLines m i (linesOf (l ++ t))) (sym (rows-next e hs true i (sym (listed-low e i (omega (arith, h, a .sized .short))) ∙ w)))
       ∙ ap (λ (l : List ℕ). readLines m i (linesOf l)) (append-assoc s r t)
       ∙ ap (λ (l : List ℕ). readLines m i (linesOf (l ++ (r ++ t)))) (row-is i)
-      ∙ row-then e low i (omega (arith, h, a .short)) w (gap-spaces (length (textAt e i) - 1) .0) (u .0) (u .2) m (r ++ t)
+      ∙ row-then e low i (omega (arith, h, a .sized .short)) w (gap-spaces (length (textAt e i) - 1) .0) (u .0) (u .2) m (r ++ t)
       (b (start-whole e a i (q h) .1) (start-next e i (q h)) (m + 1))
 
   rows-back : (i : ℕ) → Back i

@@ -19,8 +19,8 @@ use Rattle.isa.specs.Classes.{classOf, kind, kind-unknown, kind-unsupported}
 use Rattle.isa.specs.Decode.{next}
 use Rattle.isa.specs.Starts.{startsFrom}
 use Rattle.isa.specs.Walk.{Walk, stop, step}
-use Rattle.isa.proofs.Promises.{by-starts, from-end, from-next, start-in, walk-last, weigh-one}
-use Rattle.verifier.specs.Acceptance.{Accepted, Broken, heights-differ, too-few, too-many, runs-on, Justified, of-size, of-pass1, of-pass2, of-pass3}
+use Rattle.isa.proofs.Promises.{by-starts, from-end, from-next, start-in, walk-last}
+use Rattle.verifier.specs.Acceptance.{Accepted, Shows, heights-differ, too-few, too-many, runs-on, Justified, of-size, of-pass1, of-pass2, of-pass3}
 use Rattle.verifier.specs.Verdict.{Verdict, accepted, refused, verdict}
 use Rattle.verifier.proofs.Promises.{means, accepted-means, refused-number, begins, ready, goes-on, goes-forward}
 use Rattle.heights.specs.Arrivals.{unreached, ArrivalsBy}
@@ -151,30 +151,30 @@ module _ (e : List ℕ) {n g l : ℕ} (a : Accepted e n g l) where
 
   longest-length : l ≤ length e
   longest-length =
-      let r = a .walk .reached in
-      omega (arith, r .5, weigh-one (r .0), walk-length (begins e a) (r .3), start-in e (r .1) (walk-last (r .3)))
+      let t = a .longest .shown .to-end in
+      omega (arith, a .longest .number, walk-length (begins e a) (t .2), start-in e (t .0) (walk-last (t .2)))
 
   numbers-low : (n ≤ 1024) × (g ≤ 64) × (l ≤ 1024)
   numbers-low =
       let r = a .height .reached in
-      (omega (arith, a .count, starts-length e 0, a .acceptable .short), omega (arith, r .4, ready e a (r .3) .room), omega (arith, longest-length, a .acceptable .short))
+      (omega (arith, a .count, starts-length e 0, a .acceptable .sized .short), omega (arith, r .4, ready e a (r .3) .room), omega (arith, longest-length, a .acceptable .sized .short))
 
 -- the offset of a refusal
 module _ (e : List ℕ) {k : ℕ} where
   walked : {w : List ℕ} {u : ℕ} → Walk e 0 0 w k u → k ≤ length e
   walked x = omega (arith, start-in e k (walk-last x))
 
-  broken-inside : {r : ℕ} → Broken e k r → k ≤ length e
-  broken-inside (heights-differ p x y d) = walked x
-  broken-inside (too-few p x d) = walked x
-  broken-inside (too-many p x d) = walked x
-  broken-inside (runs-on p x t d) = walked x
+  shown-inside : {r : ℕ} {lists : List (List ℕ)} → Shows e k r lists → k ≤ length e
+  shown-inside (heights-differ p l x y d) = walked x
+  shown-inside (too-few p l x d) = walked x
+  shown-inside (too-many p l x c d) = walked x
+  shown-inside (runs-on p l x c h t d) = walked x
 
   refused-inside : {r : ℕ} → Justified e r k → k ≤ length e
   refused-inside (of-size p z s) = omega arith
-  refused-inside (of-pass1 s f) = omega (arith, start-in e k s)
-  refused-inside (of-pass2 d s f) = omega (arith, start-in e k s)
-  refused-inside (of-pass3 d t b f) = broken-inside b
+  refused-inside (of-pass1 z x) = omega (arith, start-in e k (x .start))
+  refused-inside (of-pass2 z d x) = omega (arith, start-in e k (x .start))
+  refused-inside (of-pass3 z d t b o f) = shown-inside (b .1)
 
 module _ (e : List ℕ) (low : (j : ℕ) → getD e j 0 < 256) (size : length e < 2 ^ 64) where
   verdict-length : (v : Verdict) → verdict e ≡ v → length (verdictText e v) ≤ 176

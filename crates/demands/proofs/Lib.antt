@@ -1,3 +1,6 @@
--- `Promises` is the page of the demands; `Numbers` holds work behind it.
+-- `Promises` is the page of the demands; the others hold work behind it.
 pub mod Numbers
+pub mod Leaving
+pub mod Telling
+pub mod Reporting
 pub mod Promises

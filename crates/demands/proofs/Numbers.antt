@@ -1,40 +1,115 @@
--- Each refusal has a number of document 01's table.
+-- Each entry gives exactly the numbers that the table of refusals has for it.
 use mathlib.Core.Bool.{Bool, true, false, cond, not, _&&_, _||_}
-use mathlib.Core.List.{List, [], _∷_, _++_}
-use mathlib.Core.Logic.{_⊎_, inl, inr, ⊎-elim, _≢_}
-use mathlib.Core.Path.{_≡_, refl}
-use Prim.Native.Nat.{ℕ, _≤_}
-use lib.Dec.{T, leb, ltb, eqb}
-use borrow.Author.Tests.{le-leb}
+use mathlib.Core.List.{List, [], _∷_, _++_, map}
+use mathlib.Core.Logic.{_⊎_, _↔_, inl, inr, ⊎-elim}
+use mathlib.Core.Path.{_≡_, refl, sym}
+use Prim.Native.Nat.{ℕ, zero, suc, _≤_, _<_}
+use native.Mathlib.Omega.{arith}
+use native.Mathlib.Decide.{ℕ-discrete}
+use lib.Dec.{T, ltb, eqb}
+use borrow.Author.Tests.{eqb-true}
 use Rattle.encoding.specs.Tried.{tried}
+use Rattle.encoding.specs.BigEndian.{bigEndian}
+use Rattle.encoding.specs.LittleEndian.{littleEndian, littleBytes}
+use Rattle.isa.specs.Classes.{opcodes, classOf}
+use Rattle.isa.specs.Decode.{operand, picked, needed, left, heightAfter}
+use Rattle.isa.specs.Starts.{startsAtMost, startsFrom, isStart}
 use Rattle.encoding.proofs.Promises.{and-left, and-right}
-use Rattle.memory.specs.Spans.{spanTests}
-use Rattle.memory.specs.Fetch.{readable, fetchRefusal}
-use Rattle.demands.specs.Refusals.{between, fetchNumber}
+use Rattle.memory.specs.Spans.{endsPast, shareAddress, spanTests}
+use Rattle.memory.specs.Fetch.{holdsRange, readable, fetchRefusal}
+use Rattle.frames.specs.Record.{encode, encodeAll, decodeMemory, decodeVariable, decode}
+use Rattle.frames.specs.Division.{divideAtMost, divide}
+use Rattle.frames.specs.Trailer.{decodeTrailer}
+use Rattle.verifier.specs.Fault.{first}
+use Rattle.verifier.specs.Pass1.{fault1}
+use Rattle.verifier.specs.Pass2.{fault2}
+use Rattle.verifier.specs.Pass3.{arrive, raise, atTarget, atNext, runsOff, fault3, longer, heightsAlong, heights0, distances0, pass3}
+use Rattle.verifier.specs.Verdict.{after1, after2, after3, verdict}
+use Rattle.machine.specs.Words.{binaryWord, zeroDivisor}
+use Rattle.machine.specs.Recording.{fitting, rangeMade}
+use Rattle.machine.specs.Meaning.{binaryDone, refDone, regDone, endDone, done, stackAfter, variablesAfter, offsetAfter}
+use Rattle.machine.specs.Machine.{moves}
+use Rattle.machine.specs.Run.{inputRefusal, ended, numberOf as runNumber}
+use Rattle.reader.specs.Located.{frameBefore, frameBack, located, walked}
+use Rattle.reader.specs.Read.{reading, counting}
+use Rattle.lilivrez_verifier.specs.Told.{numberOf as verifyNumber}
+use Rattle.lilivrez_verifier.proofs.Promises as verifier
+use Rattle.lilivrez_agent.specs.Frames.{among, readNumber, countNumber, placeNumber}
+use Rattle.lilivrez_agent.proofs.Promises as agent
+use Rattle.demands.specs.Refusals.{Entry, verify, fetch, run, read, count, locate, walk, table, numbersOf, Inputs, number, typed, Gives}
+use Rattle.demands.specs.Attained.{examples}
 
--- ---- tests tried in order give one of their numbers, or 0
+-- ---- none else
+-- a test that holds of all numbers below n
+abbrev upTo : ℕ → (ℕ → Bool) → Bool
+upTo zero p = true
+upTo (suc n) p = p n && upTo n p
+
+up-to : (p : ℕ → Bool) (n r : ℕ) → T (upTo n p) → r < n → T (p r)
+up-to p zero r t h = absurd (omega arith)
+up-to p (suc n) r t h = elim (ℕ-discrete r n) [ yes q ↦ rw q (and-left (p n) (upTo n p) t) | no q ↦ up-to p n r (and-right (p n) (upTo n p) t) (omega arith) ]
+
+-- tests tried in order give one of their numbers, or 0
 abbrev allOf : (ℕ → Bool) → List (Bool × ℕ) → Bool
-allOf p [] = true
+allOf p [] = p 0
 allOf p (t ∷ ts) = p (t .1) && allOf p ts
 
-first-of : (p : ℕ → Bool) (b : Bool) (n m : ℕ) → T (p n) → (m ≡ 0) ⊎ T (p m) → (cond b n m ≡ 0) ⊎ T (p (cond b n m))
-first-of p true n m h k = inr h
+first-of : (p : ℕ → Bool) (b : Bool) (n m : ℕ) → T (p n) → T (p m) → T (p (cond b n m))
+first-of p true n m h k = h
 first-of p false n m h k = k
 
-tried-in : (p : ℕ → Bool) (ts : List (Bool × ℕ)) → T (allOf p ts) → (tried ts ≡ 0) ⊎ T (p (tried ts))
-tried-in p [] h = inl refl
-tried-in p (t ∷ ts) h =
-    first-of p (t .0) (t .1) (tried ts) (and-left (p (t .1)) (allOf p ts) h) (tried-in p ts (and-right (p (t .1)) (allOf p ts) h))
+tried-in : (p : ℕ → Bool) (ts : List (Bool × ℕ)) → T (allOf p ts) → T (p (tried ts))
+tried-in p [] h = h
+tried-in p (t ∷ ts) h = first-of p (t .0) (t .1) (tried ts) (and-left (p (t .1)) (allOf p ts) h) (tried-in p ts (and-right (p (t .1)) (allOf p ts) h))
 
-given : (p : ℕ → Bool) (r : ℕ) → (r ≡ 0) ⊎ T (p r) → (r ≡ 0 → ⊥) → T (p r)
-given p r h n = ⊎-elim (λ e. absurd (n e)) (λ t. t) h
+listed : (x : Entry) (i : Inputs x) → T (among (0 ∷ numbersOf x) (number x i))
+unfolding table fetchRefusal
+listed verify e = up-to (among (0 ∷ numbersOf verify)) 12 (number verify e) tt (omega (arith, verifier.number-most e))
+listed fetch i =
+    tried-in (among (0 ∷ numbersOf fetch)) (spanTests (i .0) (i .1) (i .2) (i .3) ++ ((ltb 0 (i .5) && not (readable (i .0) (i .1) (i .2) (i .3) (i .4) (i .5)), 19) ∷ [])) tt
+listed run i = up-to (among (0 ∷ numbersOf run)) 22 (number run i) tt (omega (arith, agent.number-most (i .0) (i .1) (i .2) (i .3) (i .4)))
+listed read i = agent.read-number (i .0) (i .1) (i .2) (i .3)
+listed count i = agent.count-number (i .0) (i .1) (i .2)
+listed locate i = agent.locate-number (i .0) (i .1) (i .2)
+listed walk i = agent.walk-number (i .0) (i .1)
 
--- ---- a fetch
-pub fetch-number : (f : ℕ) (image : List ℕ) (g : ℕ) (work : List ℕ) (a k : ℕ) → fetchRefusal f image g work a k ≢ 0 → T (fetchNumber (fetchRefusal f image g work a k))
-unfolding fetchRefusal
-fetch-number f image g work a k =
-    given fetchNumber _ (tried-in fetchNumber (spanTests f image g work ++ ((ltb 0 k && not (readable f image g work a k), 19) ∷ [])) tt)
+-- ---- each attained
+abbrev allTyped : (x : Entry) → List (Inputs x) → Bool
+allTyped x [] = true
+allTyped x (i ∷ is) = typed x i && allTyped x is
 
--- ---- the verifier and a run: their pages tell the least and the greatest
-pub between-in : (a b r : ℕ) → (a ≤ r) × (r ≤ b) → T (between a b r)
-between-in a b r h = rw (le-leb a r (h .0), le-leb r b (h .1)) tt
+either : (a b : Bool) → T (a || b) → (a ≡ true) ⊎ T b
+either true b h = inl refl
+either false b h = inr h
+
+module _ (x : Entry) where
+  found : (is : List (Inputs x)) → T (allTyped x is) → (r : ℕ) → T (among (map (number x) is) r) → Gives x r
+  found [] t r h = absurd h
+  found (i ∷ is) t r h =
+      ⊎-elim (λ (p : eqb r (number x i) ≡ true). (i, and-left (typed x i) (allTyped x is) t, sym (eqb-true r (number x i) p)))
+      (λ (p : T (among (map (number x) is) r)). found is (and-right (typed x i) (allTyped x is) t) r p)
+      (either (eqb r (number x i)) (among (map (number x) is) r) h)
+
+-- the examples are inputs that can be lent, and give the numbers of the table in turn
+examples-typed : (x : Entry) → T (allTyped x (examples x))
+unfolding examples
+examples-typed verify = tt
+examples-typed fetch = tt
+examples-typed run = tt
+examples-typed read = tt
+examples-typed count = tt
+examples-typed locate = tt
+examples-typed walk = tt
+
+examples-give : (x : Entry) → map (number x) (examples x) ≡ 0 ∷ numbersOf x
+unfolding examples table verifyNumber runNumber ended inputRefusal endsPast shareAddress verdict after1 after2 after3 pass3 heights0 distances0 heightsAlong longer fault3 runsOff atNext atTarget raise arrive fault2 fault1 first isStart startsFrom startsAtMost heightAfter left needed picked operand classOf opcodes bigEndian moves done binaryDone refDone regDone endDone stackAfter variablesAfter offsetAfter binaryWord zeroDivisor rangeMade fitting holdsRange readable fetchRefusal encode encodeAll littleEndian littleBytes readNumber countNumber placeNumber reading counting located walked frameBack frameBefore decodeTrailer divide divideAtMost decode decodeMemory decodeVariable
+examples-give verify = refl
+examples-give fetch = refl
+examples-give run = refl
+examples-give read = refl
+examples-give count = refl
+examples-give locate = refl
+examples-give walk = refl
+
+pub exact : (x : Entry) (r : ℕ) → Gives x r ↔ T (among (0 ∷ numbersOf x) r)
+exact x r = (λ g. rw (← g .2) (listed x (g .0)), λ t. found x (examples x) (examples-typed x) r (rw (examples-give x) t))

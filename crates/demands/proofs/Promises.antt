@@ -1,38 +1,49 @@
 -- The demands (docs/demands.md), sentence by sentence, each as a statement that is proved by citing the crates' pages. What a reader must believe besides is the
--- definitions that are named here: `verdict`, `Walk` and `Accepted` (verifier, isa), `ended` (machine), `fetched` and `targetByte` (memory), `encodeFrame` (frames),
--- `reading`, `counting` and `walked` (reader).
+-- definitions that are named here: `verdict`, `Walk` and `Accepted` (verifier, isa), `ended` (machine), `fetched`, `targetByte` and `InTarget` (memory), `encodeFrame`
+-- (frames), `reading`, `counting`, `located` and `walked` (reader), `ToldRun` (lilivrez_agent), and this crate's specs/.
 use mathlib.Core.List.{List, _∷_, _++_}
-use mathlib.Core.Logic.{_≢_}
-use mathlib.Core.Path.{_≡_, refl, sym, _∙_}
-use Prim.Native.Nat.{ℕ, suc, _+_, _^_, _≤_, _<_}
-use native.Mathlib.Omega.{arith}
+use mathlib.Core.Logic.{_↔_, _≢_}
+use mathlib.Core.Path.{_≡_, sym, ap, _∙_}
+use Prim.Native.Nat.{ℕ, suc, _+_, _≤_, _<_}
 use lib.ListN.{length, getD, take, drop}
 use lib.Dec.{T}
+use denote.Ref.{now}
 use Rattle.encoding.specs.Written.{writtenAt}
-use Rattle.isa.specs.Walk.{one}
-use Rattle.memory.specs.Spans.{spansRefusal}
-use Rattle.memory.specs.Fetch.{fetchRefusal, targetByte}
-use Rattle.frames.specs.Record.{Record, memory, encodeAll}
+use Rattle.memory.specs.Fetch.{fetchRefusal, fetched, InTarget, targetByte}
+use Rattle.frames.specs.Record.{Record, memory, encodeAll, AllWellFormed}
 use Rattle.frames.specs.Frame.{encodeFrame}
-use Rattle.verifier.specs.Verdict.{accepted, refused, verdict}
-use Rattle.verifier.specs.Acceptance.{Accepted, Heaviest}
+use Rattle.verifier.specs.Verdict.{accepted, verdict, verdictOf}
+use Rattle.verifier.specs.Acceptance.{MostIs}
 use Rattle.verifier.proofs.Promises as verifying
-use Rattle.machine.specs.Fed.{Fed}
-use Rattle.machine.specs.Machine.{stopped}
-use Rattle.machine.specs.Run.{ended, stepsOf, usedOf, variablesOf, bufferOf}
-use Rattle.machine.specs.Recorded.{FromTarget, AllFromTarget, Typed, recordsOf}
+use Rattle.machine.specs.Fed.{Fed, fed}
+use Rattle.machine.specs.Run.{ended, defaultAllowance, numberOf, stepsOf, usedOf, variablesOf, bufferOf}
+use Rattle.machine.specs.Recorded.{AllFromTarget, recordsOf}
 use Rattle.machine.proofs.Promises as machine
-use Rattle.runner.specs.Returned.{Ran, returned, returnedBy, stepsReported}
-use Rattle.runner.specs.declared.Value.{Value}
+use Rattle.runner.specs.Returned.{Ran}
 use Rattle.runner.specs.declared.Outcome.{Outcome}
-use Rattle.runner.specs.declared.Outcome.the-variants.{Completed, Refused}
-use Rattle.runner.proofs.Promises as runner
-use Rattle.reader.specs.Located.{located, walked}
-use Rattle.reader.specs.Located as at
-use Rattle.reader.specs.Read.{refusedRead, told, reading, counted, refusedCount, counting}
+use Rattle.reader.specs.Located.{located, walked, placeAfter}
+use Rattle.reader.specs.Read.{memoryRead, refusedRead, told, reading, counted, counting}
+use Rattle.reader.specs.Answers.{locatedOf, readOf, countedOf}
 use Rattle.reader.proofs.Promises as reader
-use Rattle.demands.specs.Refusals.{verifierNumber, runNumber, fetchNumber, readerNumber}
+use Rattle.lilivrez_verifier.specs.Told as verifier
+use Rattle.lilivrez_agent.specs.Lent.{lentAt, stored}
+use Rattle.lilivrez_agent.specs.Told.{valuesOf, ToldRun}
+use Rattle.lilivrez_agent.specs.Frames.{among, readNumber, readValues, countNumber, countValues, placeNumber, placeValues, walkValues}
+use Rattle.demands.specs.Entry.{Answers, Exports}
+use Rattle.demands.specs.Refusals.{Entry, numbersOf, Gives}
+use Rattle.demands.specs.Stored.{stepsIn, usedIn, numberTold, valuesTold}
 use Rattle.demands.proofs.Numbers as numbers
+use Rattle.demands.proofs.Leaving as leaving
+use Rattle.demands.proofs.Telling as telling
+use Rattle.demands.proofs.Reporting as reporting
+use Rattle.lilivrez_verifier.proofs.lilivrez_verify as lilivrez-verify
+use Rattle.lilivrez_agent.proofs.lilivrez_fetch as lilivrez-fetch
+use Rattle.lilivrez_agent.proofs.lilivrez_run as lilivrez-run
+use Rattle.lilivrez_agent.proofs.lilivrez_run_default as lilivrez-run-default
+use Rattle.lilivrez_agent.proofs.lilivrez_read as lilivrez-read
+use Rattle.lilivrez_agent.proofs.lilivrez_count as lilivrez-count
+use Rattle.lilivrez_agent.proofs.lilivrez_locate as lilivrez-locate
+use Rattle.lilivrez_agent.proofs.lilivrez_walk as lilivrez-walk
 use Rattle.verifier.proofs.verify as verify
 use Rattle.memory.proofs.fetch as fetch
 use Rattle.memory.proofs.fetch_refusal as fetch-refusal
@@ -42,129 +53,212 @@ use Rattle.reader.proofs.read as read
 use Rattle.reader.proofs.count_records as count-records
 use Rattle.reader.proofs.locate as locate
 use Rattle.reader.proofs.walk as walk
+use Rattle.walker.proofs.new as walker-new
+use Rattle.walker.proofs.step as walker-step
 
 -- ==== Demand 1
--- "Every entry point answers on any bytes, spans, registers, buffer and step allowance, and refuses bad ones itself." No contract of these has a `requires`, and each
--- equates the answer with a defined one on every input; a contract that is met says too that the function ends.
+-- "Every entry point answers on any bytes, spans, registers, buffer and step allowance, and refuses bad ones itself." `Answers` and `Exports` (specs/Entry.antt): whatever the
+-- function is called with, nothing is asked of the caller, it ends, and what stands here holds of its arguments in their order, its answer r, and its arguments as it
+-- leaves them. `now` is what a slice or a reference holds.
 module _ {M : Type 1} where
-  pub verify-answers : verify.Statement.statement M
+  -- the functions that console and unit link: what is returned, and what is stored in `out`
+  pub lilivrez-verify-answers : Exports M lilivrez-verify.ended lilivrez-verify.Symbol.routine
+      (λ _ (expression, _) r _. r ≡ verifier.numberOf (verdict (now expression)))
+      (λ _ (expression, _) _ (_, (out, _)). now out ≡ verifier.valuesOf (verdict (now expression)))
+  lilivrez-verify-answers = lilivrez-verify.Met.met
+
+  pub lilivrez-fetch-answers : Exports M lilivrez-fetch.ended lilivrez-fetch.Symbol.routine
+      (λ _ (image-first, (image, (work-first, (work, (address, (size, _)))))) r _. r ≡ fetchRefusal image-first (now image) work-first (now work) address size)
+      (λ _ (image-first, (image, (work-first, (work, (address, (size, _)))))) _ (_, (_, (_, (_, (_, (_, (out, _)))))))
+      . now out ≡ stored (lentAt image-first (now image) work-first (now work) address size))
+  lilivrez-fetch-answers = lilivrez-fetch.Met.met
+
+  pub lilivrez-run-answers : Answers M lilivrez-run.ended lilivrez-run.Symbol.routine
+      (λ _ (expression, (registers, (image-first, (image, (work-first, (work, (variables, (buffer, (used, (tracepoint, (allowance, _)))))))))))
+      r (_, (_, (_, (_, (_, (_, (variables′, (buffer′, (_, (_, (_, (out, _))))))))))))
+      . ToldRun (fed (now expression) (now registers) image-first (now image) work-first (now work)) tracepoint (now variables) (now buffer) used allowance
+      r (now out) (now variables′) (now buffer′))
+  lilivrez-run-answers = lilivrez-run.Met.met
+
+  pub lilivrez-run-default-answers : Answers M lilivrez-run-default.ended lilivrez-run-default.Symbol.routine
+      (λ _ (expression, (registers, (image-first, (image, (work-first, (work, (variables, (buffer, (used, (tracepoint, _))))))))))
+      r (_, (_, (_, (_, (_, (_, (variables′, (buffer′, (_, (_, (out, _)))))))))))
+      . ToldRun (fed (now expression) (now registers) image-first (now image) work-first (now work)) tracepoint (now variables) (now buffer) used defaultAllowance
+      r (now out) (now variables′) (now buffer′))
+  lilivrez-run-default-answers = lilivrez-run-default.Met.met
+
+  pub lilivrez-read-answers : Exports M lilivrez-read.ended lilivrez-read.Symbol.routine
+      (λ _ (buffer, (used, (frame, (index, _)))) r _. r ≡ readNumber (reading (now buffer) used frame index))
+      (λ _ (buffer, (used, (frame, (index, _)))) _ (_, (_, (_, (_, (out, _))))). now out ≡ readValues (reading (now buffer) used frame index))
+  lilivrez-read-answers = lilivrez-read.Met.met
+
+  pub lilivrez-count-answers : Exports M lilivrez-count.ended lilivrez-count.Symbol.routine
+      (λ _ (buffer, (used, (frame, _))) r _. r ≡ countNumber (counting (now buffer) used frame))
+      (λ _ (buffer, (used, (frame, _))) _ (_, (_, (_, (out, _)))). now out ≡ countValues (counting (now buffer) used frame))
+  lilivrez-count-answers = lilivrez-count.Met.met
+
+  pub lilivrez-locate-answers : Exports M lilivrez-locate.ended lilivrez-locate.Symbol.routine
+      (λ _ (buffer, (used, (frame, _))) r _. r ≡ placeNumber (located (now buffer) used frame))
+      (λ _ (buffer, (used, (frame, _))) _ (_, (_, (_, (out, _)))). now out ≡ placeValues (located (now buffer) used frame))
+  lilivrez-locate-answers = lilivrez-locate.Met.met
+
+  pub lilivrez-walk-answers : Exports M lilivrez-walk.ended lilivrez-walk.Symbol.routine
+      (λ _ (buffer, (place, _)) r _. r ≡ placeNumber (walked (now buffer) place))
+      (λ _ (buffer, (place, _)) _ (_, (_, (out, _))). now out ≡ walkValues place (walked (now buffer) place))
+  lilivrez-walk-answers = lilivrez-walk.Met.met
+
+  -- the entries behind them, for code of the same toolchain
+  pub verify-answers : Answers M verify.ended verify.Symbol.routine (λ _ (expression, _) r _. verdictOf r ≡ verdict (now expression))
   verify-answers = verify.Met.met
 
-  pub fetch-answers : fetch.Statement.statement M
+  pub fetch-answers : Answers M fetch.ended fetch.Symbol.routine
+      (λ _ (image-first, (image, (work-first, (work, (address, (size, _)))))) r _. now r ≡ fetched image-first (now image) work-first (now work) address size)
   fetch-answers = fetch.Met.met
 
-  pub fetch-refusal-answers : fetch-refusal.Statement.statement M
+  pub fetch-refusal-answers : Answers M fetch-refusal.ended fetch-refusal.Symbol.routine
+      (λ _ (image-first, (image, (work-first, (work, (address, (size, _)))))) r _. r ≡ fetchRefusal image-first (now image) work-first (now work) address size)
   fetch-refusal-answers = fetch-refusal.Met.met
 
-  pub run-answers : run.Statement.statement M
+  pub run-answers : Answers M run.ended run.Symbol.routine
+      (λ _ (expression, (registers, (image-first, (image, (work-first, (work, (variables, (buffer, (used, (tracepoint, (allowance, _)))))))))))
+      r (_, (_, (_, (_, (_, (_, (variables′, (buffer′, _))))))))
+      . Ran (fed (now expression) (now registers) image-first (now image) work-first (now work)) tracepoint (now variables) (now buffer) used allowance
+      r (now variables′) (now buffer′))
   run-answers = run.Met.met
 
-  pub run-default-answers : run-default.Statement.statement M
+  pub run-default-answers : Answers M run-default.ended run-default.Symbol.routine
+      (λ _ (expression, (registers, (image-first, (image, (work-first, (work, (variables, (buffer, (used, (tracepoint, _))))))))))
+      r (_, (_, (_, (_, (_, (_, (variables′, (buffer′, _))))))))
+      . Ran (fed (now expression) (now registers) image-first (now image) work-first (now work)) tracepoint (now variables) (now buffer) used defaultAllowance
+      r (now variables′) (now buffer′))
   run-default-answers = run-default.Met.met
 
-  pub read-answers : read.Statement.statement M
+  pub read-answers : Answers M read.ended read.Symbol.routine (λ _ (buffer, (used, (frame, (index, _)))) r _. readOf r ≡ reading (now buffer) used frame index)
   read-answers = read.Met.met
 
-  pub count-records-answers : count-records.Statement.statement M
+  pub count-records-answers : Answers M count-records.ended count-records.Symbol.routine (λ _ (buffer, (used, (frame, _))) r _. countedOf r ≡ counting (now buffer) used frame)
   count-records-answers = count-records.Met.met
 
-  pub locate-answers : locate.Statement.statement M
+  pub locate-answers : Answers M locate.ended locate.Symbol.routine (λ _ (buffer, (used, (frame, _))) r _. locatedOf r ≡ located (now buffer) used frame)
   locate-answers = locate.Met.met
 
-  pub walk-answers : walk.Statement.statement M
+  pub walk-answers : Answers M walk.ended walk.Symbol.routine (λ _ (buffer, (place, _)) r _. locatedOf r ≡ walked (now buffer) place)
   walk-answers = walk.Met.met
 
--- "Each refusal has one number from document 01's table."
-pub verify-number : (e : List ℕ) {r k : ℕ} → verdict e ≡ refused r k → T (verifierNumber r)
-verify-number e {r} p = numbers.between-in 1 11 r (verifying.refused-number e p)
+  -- the walker: made before the newest frame, and one step
+  pub walker-new-answers : Answers M walker-new.ended walker-new.Symbol.routine (λ _ (buffer, (used, _)) r _. (r .buffer ≡ buffer) × (r .place ≡ used))
+  walker-new-answers = walker-new.Met.met
 
-pub fetch-number : (f : ℕ) (image : List ℕ) (g : ℕ) (work : List ℕ) (a k : ℕ) → fetchRefusal f image g work a k ≢ 0 → T (fetchNumber (fetchRefusal f image g work a k))
-fetch-number = numbers.fetch-number
+  pub walker-step-answers : Answers M walker-step.ended walker-step.Symbol.routine
+      (λ _ (walker, _) r (walker′, _).
+      let buffer = now walker .buffer in
+      let place = now walker .place in
+      (locatedOf r ≡ walked (now buffer) place) × (now walker′ .buffer ≡ buffer) × (now walker′ .place ≡ placeAfter place (walked (now buffer) place)))
+  walker-step-answers = walker-step.Met.met
 
-pub run-number : (m : Fed) (v b : List ℕ) (u allowance : ℕ) {r k n : ℕ} (rs : List Record) → ended m v b u allowance ≡ stopped r k n rs → T (runNumber r)
-run-number m v b u allowance {r} rs p = numbers.between-in 1 21 r (machine.stopped-number m v b u allowance p)
-
-pub read-number : (l : List ℕ) (used number i : ℕ) {r k : ℕ} → reading l used number i ≡ refusedRead r k → T (readerNumber r)
-read-number l = reader.read-number readerNumber l tt tt tt tt tt
-
-pub count-number : (l : List ℕ) (used number : ℕ) {r k : ℕ} → counting l used number ≡ refusedCount r k → T (readerNumber r)
-count-number l = reader.count-number readerNumber l tt tt tt tt
-
-pub walk-number : (l : List ℕ) (place : ℕ) {r k : ℕ} → walked l place ≡ at.refused r k → T (readerNumber r)
-walk-number l = reader.walked-number readerNumber l tt tt tt
+-- "Each refusal has one number from document 01's table." The numbers that an entry gives are exactly those that the table (specs/Refusals.antt) has for it, and 0 where
+-- nothing is refused.
+pub numbers-exact : (x : Entry) (r : ℕ) → Gives x r ↔ T (among (0 ∷ numbersOf x) r)
+numbers-exact = numbers.exact
 
 -- ==== of a run
--- m is fed to it, besides the variables v, the buffer b with its used length u, the tracepoint number t and the allowance. It gave the answer r and left the variables v′
--- and the buffer b′: `run` ensures that it ended as document 01's machine.
-module _ (m : Fed) (t : ℕ) (v b : List ℕ) (u allowance : ℕ) {r : Outcome} {v′ b′ : List ℕ} (ran : Ran t v b u (ended m v b u allowance) r v′ b′) where
-  -- "A refused run gives back the variables and the used length it was given, and document 01 fixes each byte of the buffer." The answer of a refused run holds no used length.
-  pub refused-leaves : {x k s : ℕ} → r ≡ Refused x k s → (v′ ≡ v) × (b′ ≡ writtenAt b u (encodeAll (recordsOf (ended m v b u allowance))))
-  refused-leaves = runner.refused-leaves m t v b u allowance ran
+-- m is fed to it, besides the variables v, the buffer b with its used length u, the tracepoint number t and the allowance. It returned `number`, stored `values`, and left the
+-- variables v′ and the buffer b′: what `lilivrez_run` ensures. What `run` answers is told by the same numbers.
+pub run-told : {m : Fed} {t : ℕ} {v b : List ℕ} {u allowance : ℕ} {r : Outcome} {v′ b′ : List ℕ} → Ran m t v b u allowance r v′ b′
+    → ToldRun m t v b u allowance (numberTold r) (valuesTold u r) v′ b′
+run-told = reporting.run-told
+
+module _ {m : Fed} {t : ℕ} {v b : List ℕ} {u allowance number : ℕ} {values v′ b′ : List ℕ} (tells : ToldRun m t v b u allowance number values v′ b′) where
+  -- the records that document 01's machine makes, fed the same
+  abbrev made : List Record
+  made = recordsOf (ended m v b u allowance)
+
+  steps-told : stepsIn values ≡ stepsOf (ended m v b u allowance)
+  steps-told = ap stepsIn (tells .values-of) ∙ reporting.steps-in t u (ended m v b u allowance)
+
+  used-told : usedIn values ≡ usedOf t u (ended m v b u allowance)
+  used-told = ap usedIn (tells .values-of) ∙ reporting.used-in t u (ended m v b u allowance)
+
+  -- "A refused run gives back the variables and the used length it was given, and document 01 fixes each byte of the buffer."
+  pub refused-leaves : number ≢ 0 → (v′ ≡ v) × (usedIn values ≡ u) × (b′ ≡ writtenAt b u (encodeAll made))
+  refused-leaves z =
+      let x = leaving.refused-leaves m t v b u allowance (rw (tells .number-of) at z) in
+      (tells .variables-of ∙ x .0, used-told ∙ x .1, tells .buffer-of ∙ x .2)
 
   -- ==== Demand 2
   -- "The verifier, the runner and the frame reader agree with the GDB manual's bytecode descriptions as document 01 makes them exact": the contracts above, of `verdict`,
   -- `ended`, `reading`, `counting` and `walked`.
-  -- "Each recorded byte is the target's byte at the recorded address."
-  pub recorded-bytes : AllFromTarget m (recordsOf (ended m v b u allowance))
-  recorded-bytes = runner.target-bytes m t v b u allowance ran
+  -- "Each recorded byte is the target's byte at the recorded address": of each record, whether the run completed or was refused.
+  pub recorded-bytes : AllFromTarget m made
+  recorded-bytes = machine.records-from-target m v b u allowance
 
   -- "Reading the newest frame after a completed run gives exactly the records that run made": their number, each in its place with its bytes, and none past the last;
-  -- and the frames that were there before are read as before, one number higher. `Typed` is what the types of the arguments say.
-  module _ (typed : Typed m v) (low : t < 2 ^ 16) (a : Value) {s w : ℕ} (done : r ≡ Completed a s w) where
-    abbrev made : List Record
-    made = recordsOf (ended m v b u allowance)
-
+  -- and the frames that were there before are read as before, one number higher.
+  module _ (done : number ≡ 0) where
     abbrev place : List Record → ℕ
     place before = u + length (encodeAll before)
 
-    leaves : (w ≡ u + length (encodeFrame t made)) × (b′ ≡ writtenAt b u (encodeFrame t made))
-    leaves = runner.completed-leaves m t v b u allowance ran a done
+    framed : leaving.Framed t b u (ended m v b u allowance)
+    framed = leaving.framed m t v b u allowance (sym (tells .number-of) ∙ done)
 
-    fits : (u + length (encodeFrame t made) ≤ length b) × (length b ≤ 65536)
-    fits = runner.completed-fits m t v b u allowance ran a done
+    used-is : usedIn values ≡ u + length (encodeFrame t made)
+    used-is = used-told ∙ framed .used
 
-    pub newest-count : counting b′ w 0 ≡ counted t u (length (encodeAll made)) (length made)
-    newest-count = rw (leaves .0, leaves .1) (reader.newest-count b u t made (fits .1) (fits .0) low (machine.records-well-formed m v b u allowance typed))
+    buffer-is : b′ ≡ writtenAt b u (encodeFrame t made)
+    buffer-is = tells .buffer-of ∙ framed .buffer
 
-    pub newest-record : (before : List Record) (x : Record) (behind : List Record) → made ≡ before ++ (x ∷ behind) → reading b′ w 0 (length before) ≡ told t (place before) x
-    newest-record = rw (leaves .0, leaves .1) (reader.newest-record b u t made (fits .1) (fits .0) low (machine.records-well-formed m v b u allowance typed))
+    well : AllWellFormed made
+    well = machine.records-well-formed (tells .typed) b u allowance
+
+    pub newest-count : counting b′ (usedIn values) 0 ≡ counted t u (length (encodeAll made)) (length made)
+    newest-count = rw (used-is, buffer-is) (reader.newest-count b u t made (framed .small) (framed .fits) (tells .typed .tracepoint) well)
+
+    pub newest-record : (before : List Record) (x : Record) (behind : List Record) → made ≡ before ++ (x ∷ behind)
+        → reading b′ (usedIn values) 0 (length before) ≡ told t (place before) x
+    newest-record = rw (used-is, buffer-is) (reader.newest-record b u t made (framed .small) (framed .fits) (tells .typed .tracepoint) well)
 
     pub newest-bytes : (before : List Record) (x : ℕ) (bytes : List ℕ) (behind : List Record) → made ≡ before ++ (memory x bytes ∷ behind)
         → take (length bytes) (drop (place before + 11) b′) ≡ bytes
-    newest-bytes = rw (leaves .1) (reader.newest-bytes b u t made (fits .1) (fits .0) low)
+    newest-bytes = rw buffer-is (reader.newest-bytes b u t made (framed .small) (framed .fits) (tells .typed .tracepoint))
 
-    pub newest-past : (i : ℕ) → length made ≤ i → reading b′ w 0 i ≡ refusedRead 25 u
-    newest-past = rw (leaves .0, leaves .1) (reader.newest-past b u t made (fits .1) (fits .0) low (machine.records-well-formed m v b u allowance typed))
+    pub newest-past : (i : ℕ) → length made ≤ i → reading b′ (usedIn values) 0 i ≡ refusedRead 25 u
+    newest-past = rw (used-is, buffer-is) (reader.newest-past b u t made (framed .small) (framed .fits) (tells .typed .tracepoint) well)
 
-    pub older-count : (number : ℕ) → counting b′ w (suc number) ≡ counting b u number
-    older-count = rw (leaves .0, leaves .1) (reader.older-count b u t made (fits .1) (fits .0) low)
+    pub older-count : (frame : ℕ) → counting b′ (usedIn values) (suc frame) ≡ counting b u frame
+    older-count = rw (used-is, buffer-is) (reader.older-count b u t made (framed .small) (framed .fits) (tells .typed .tracepoint))
 
-    pub older-record : (number i : ℕ) → reading b′ w (suc number) i ≡ reading b u number i
-    older-record = rw (leaves .0, leaves .1) (reader.older-record b u t made (fits .1) (fits .0) low)
+    pub older-record : (frame i : ℕ) → reading b′ (usedIn values) (suc frame) i ≡ reading b u frame i
+    older-record = rw (used-is, buffer-is) (reader.older-record b u t made (framed .small) (framed .fits) (tells .typed .tracepoint))
+
+    -- The last two sentences in one piece. What the reader tells of the newest frame: a memory record with the address a, n bytes and their place p in the buffer. A span holds
+    -- each address a + j, and the byte at the place p + j is the target's byte there.
+    pub newest-byte : (i : ℕ) {s a n p : ℕ} → reading b′ (usedIn values) 0 i ≡ memoryRead s a n p → (j : ℕ) → j < n
+        → InTarget (m .image-first) (m .image) (m .work-first) (m .work) (a + j)
+        × (getD b′ (p + j) 0 ≡ targetByte (m .image-first) (m .image) (m .work-first) (m .work) (a + j))
+    newest-byte =
+        rw (used-is, buffer-is)
+        (telling.told-byte m (leaving.fine m t v b u allowance (sym (tells .number-of) ∙ done)) b u t made (framed .small) (framed .fits) (tells .typed .tracepoint) well recorded-bytes)
 
   -- ==== Demand 3
   -- "No run of that expression, whatever else it is given, reports more steps than that number, and a run whose allowance is at least that number is never refused for
   -- its allowance."
-  pub steps-longest : {n g l : ℕ} → verdict (m .expression) ≡ accepted n g l → stepsReported r ≤ l
-  steps-longest = runner.steps-longest m t v b u allowance ran
+  pub steps-longest : {n g l : ℕ} → verdict (m .expression) ≡ accepted n g l → stepsIn values ≤ l
+  steps-longest p = rw steps-told (machine.steps-longest m v b u allowance p)
 
-  pub allowance-enough : {n g l : ℕ} → verdict (m .expression) ≡ accepted n g l → l ≤ allowance → {k s : ℕ} → r ≡ Refused 16 k s → ⊥
-  allowance-enough = runner.allowance-enough m t v b u allowance ran
+  pub allowance-enough : {n g l : ℕ} → verdict (m .expression) ≡ accepted n g l → l ≤ allowance → number ≢ 16
+  allowance-enough p h = rw (tells .number-of) (machine.allowance-enough m v b u allowance p h)
 
   -- "For every run on any bytes, completed or refused, the steps that the runner reports are exactly as many as document 01's machine completes when it is fed the same"
-  pub steps-machine : stepsReported r ≡ stepsOf (ended m v b u allowance)
-  steps-machine = runner.steps-machine m t v b u allowance ran
+  pub steps-machine : stepsIn values ≡ stepsOf (ended m v b u allowance)
+  steps-machine = steps-told
 
-  -- "and the run ends as that machine ends: with the same refusal and offset, or the same answer, and with the same records."
-  pub ends-as-machine : (returnedBy r ≡ returned t u (ended m v b u allowance)) × (v′ ≡ variablesOf v (ended m v b u allowance)) × (b′ ≡ bufferOf t b u (ended m v b u allowance))
-  ends-as-machine = (ran .answer, ran .variables, ran .buffer)
-
--- the same of demand 2, byte by byte
-pub recorded-byte : (m : Fed) → spansRefusal (m .image-first) (m .image) (m .work-first) (m .work) ≡ 0 → (a : ℕ) (bytes : List ℕ) → FromTarget m (memory a bytes)
-    → (i : ℕ) → i < length bytes → getD bytes i 0 ≡ targetByte (m .image-first) (m .image) (m .work-first) (m .work) (a + i)
-recorded-byte = machine.recorded-byte
+  -- "and the run ends as that machine ends: with the same refusal and offset, or the same answer, and with the same records": `valuesOf` has the offset, the steps, the used
+  -- length and the answer, `bufferOf` the records.
+  pub ends-as-machine : (number ≡ numberOf (ended m v b u allowance)) × (values ≡ valuesOf t u (ended m v b u allowance))
+      × (v′ ≡ variablesOf v (ended m v b u allowance)) × (b′ ≡ bufferOf t b u (ended m v b u allowance))
+  ends-as-machine = (tells .number-of, tells .values-of, tells .variables-of, tells .buffer-of)
 
 -- "For each accepted expression the verifier reports the number of instructions on the longest walk from its start to an end, counting both ways out of each conditional
 -- jump as possible. Some such walk has exactly that many, and none has more."
-pub longest-walk : (e : List ℕ) {n g l : ℕ} → verdict e ≡ accepted n g l → Heaviest one e l
-longest-walk e p = verifying.accepted-means e p .walk
+pub longest-walk : (e : List ℕ) {n g l : ℕ} → verdict e ≡ accepted n g l → MostIs length e l
+longest-walk e p = verifying.accepted-means e p .longest

@@ -1,23 +1,117 @@
--- The numbers of document 01's table, by who gives them: "Each refusal has one number from document 01's table" (demand 1).
-use mathlib.Core.Bool.{Bool, _&&_, _||_}
-use Prim.Native.Nat.{ℕ}
-use lib.Dec.{leb, eqb}
+-- Document 01's table of numbers and, for each, the entries that give it: "Each refusal has one number from document 01's table" (demand 1).
+use mathlib.Core.Bool.{Bool, true, cond, _&&_}
+use mathlib.Core.List.{List, [], _∷_, map}
+use mathlib.Core.Path.{_≡_}
+use Prim.Native.Nat.{ℕ, _^_}
+use lib.ListN.{length}
+use lib.Dec.{T, eqb, ltb}
+use Rattle.memory.specs.Fetch.{fetchRefusal}
+use Rattle.machine.specs.Fed.{Fed}
+use Rattle.machine.specs.Run.{ended}
+use Rattle.machine.specs.Run as machine
+use Rattle.verifier.specs.Verdict.{verdict}
+use Rattle.reader.specs.Located.{located, walked}
+use Rattle.reader.specs.Read.{reading, counting}
+use Rattle.lilivrez_verifier.specs.Told as verifier
+use Rattle.lilivrez_agent.specs.Frames.{among, readNumber, countNumber, placeNumber}
 
-abbrev pub between : ℕ → ℕ → ℕ → Bool
-between a b r = leb a r && leb r b
+pub data Entry : Type 0 where
+  verify : Entry
+  fetch : Entry
+  run : Entry
+  read : Entry
+  count : Entry
+  locate : Entry
+  walk : Entry
 
--- the verifier: size, the three passes
-abbrev pub verifierNumber : ℕ → Bool
-verifierNumber r = between 1 11 r
+unfoldable pub table : List (ℕ × List Entry)
+table =
+    -- "0 bytes, or more than 1,024"
+    (1, verify ∷ run ∷ [])
+    -- "opcode unknown; unsupported"
+    ∷ (2, verify ∷ run ∷ []) ∷ (3, verify ∷ run ∷ [])
+    -- "operands cut short; ext 0 or variable above 63"
+    ∷ (4, verify ∷ run ∷ []) ∷ (5, verify ∷ run ∷ [])
+    -- "jump not to a start; jump not forward"
+    ∷ (6, verify ∷ run ∷ []) ∷ (7, verify ∷ run ∷ [])
+    -- "heights differ; too few cells; too many; runs off"
+    ∷ (8, verify ∷ run ∷ []) ∷ (9, verify ∷ run ∷ []) ∷ (10, verify ∷ run ∷ []) ∷ (11, verify ∷ run ∷ [])
+    -- "first address + length exceeds 2^64; spans share an address"
+    ∷ (12, fetch ∷ run ∷ []) ∷ (13, fetch ∷ run ∷ [])
+    -- "over 256 registers; buffer over 65,536 or used beyond its length"
+    ∷ (14, run ∷ []) ∷ (15, run ∷ read ∷ count ∷ locate ∷ walk ∷ [])
+    -- "allowance spent"
+    ∷ (16, run ∷ [])
+    -- "divisor zero; register number not lent"
+    ∷ (17, run ∷ []) ∷ (18, run ∷ [])
+    -- "range not readable"
+    ∷ (19, fetch ∷ run ∷ [])
+    -- "record size above 65,535"
+    ∷ (20, run ∷ [])
+    -- "record, or trailer at end, longer than the free bytes"
+    ∷ (21, run ∷ [])
+    -- "reader: trailer broken; record broken"
+    ∷ (22, read ∷ count ∷ locate ∷ walk ∷ []) ∷ (23, read ∷ count ∷ [])
+    -- "no such frame; no such record"
+    ∷ (24, read ∷ count ∷ locate ∷ walk ∷ []) ∷ (25, read ∷ [])
+    ∷ []
 
--- a run: the verifier's; spans, registers, buffer; allowance; the instructions'
-abbrev pub runNumber : ℕ → Bool
-runNumber r = between 1 21 r
+-- ---- the numbers of an entry
+abbrev pub place : Entry → ℕ
+place verify = 0
+place fetch = 1
+place run = 2
+place read = 3
+place count = 4
+place locate = 5
+place walk = 6
 
--- a fetch: the spans', or 19
-abbrev pub fetchNumber : ℕ → Bool
-fetchNumber r = between 12 13 r || eqb r 19
+abbrev pub numbersIn : Entry → List (ℕ × List Entry) → List ℕ
+numbersIn x [] = []
+numbersIn x (row ∷ rows) = cond (among (map place (row .1)) (place x)) (row .0 ∷ numbersIn x rows) (numbersIn x rows)
 
--- the reader: the buffer's, or its own
-abbrev pub readerNumber : ℕ → Bool
-readerNumber r = eqb r 15 || between 22 25 r
+abbrev pub numbersOf : Entry → List ℕ
+numbersOf x = numbersIn x table
+
+-- ---- what an entry answers
+-- what decides its refusal: an expression; spans, an address and a size; what a run is given, but for the tracepoint number, which decides nothing; a buffer, its used
+-- length or the walker's place, a frame's number and a record's
+abbrev pub Inputs : Entry → Type 0
+Inputs verify = List ℕ
+Inputs fetch = ℕ × List ℕ × ℕ × List ℕ × ℕ × ℕ
+Inputs run = Fed × List ℕ × List ℕ × ℕ × ℕ
+Inputs read = List ℕ × ℕ × ℕ × ℕ
+Inputs count = List ℕ × ℕ × ℕ
+Inputs locate = List ℕ × ℕ × ℕ
+Inputs walk = List ℕ × ℕ
+
+-- the number of the refusal that it gives, or 0 where it gives none
+abbrev pub number : (x : Entry) → Inputs x → ℕ
+number verify e = verifier.numberOf (verdict e)
+number fetch i = fetchRefusal (i .0) (i .1) (i .2) (i .3) (i .4) (i .5)
+number run i = machine.numberOf (ended (i .0) (i .1) (i .2) (i .3) (i .4))
+number read i = readNumber (reading (i .0) (i .1) (i .2) (i .3))
+number count i = countNumber (counting (i .0) (i .1) (i .2))
+number locate i = placeNumber (located (i .0) (i .1) (i .2))
+number walk i = placeNumber (walked (i .0) (i .1))
+
+-- the inputs are what their types say: bytes below 256, numbers below 2^64, 64 variables
+abbrev allBelow : ℕ → List ℕ → Bool
+allBelow b [] = true
+allBelow b (x ∷ xs) = ltb x b && allBelow b xs
+
+abbrev pub typed : (x : Entry) → Inputs x → Bool
+typed verify e = allBelow 256 e
+typed fetch i = allBelow (2 ^ 64) (i .0 ∷ i .2 ∷ i .4 ∷ i .5 ∷ []) && allBelow 256 (i .1) && allBelow 256 (i .3)
+typed run i =
+    allBelow 256 (i .0 .expression) && allBelow (2 ^ 64) (i .0 .registers) && allBelow 256 (i .0 .image) && allBelow 256 (i .0 .work)
+    && allBelow (2 ^ 64) (i .1) && eqb (length (i .1)) 64 && allBelow 256 (i .2)
+    && allBelow (2 ^ 64) (i .0 .image-first ∷ i .0 .work-first ∷ i .3 ∷ i .4 ∷ [])
+typed read i = allBelow 256 (i .0) && allBelow (2 ^ 64) (i .1 ∷ i .2 ∷ i .3 ∷ [])
+typed count i = allBelow 256 (i .0) && allBelow (2 ^ 64) (i .1 ∷ i .2 ∷ [])
+typed locate i = allBelow 256 (i .0) && allBelow (2 ^ 64) (i .1 ∷ i .2 ∷ [])
+typed walk i = allBelow 256 (i .0) && allBelow (2 ^ 64) (i .1 ∷ [])
+
+-- on some inputs it gives the number r
+abbrev pub Gives : Entry → ℕ → Type 0
+Gives x r = (i : Inputs x) × T (typed x i) × (number x i ≡ r)

@@ -5,3 +5,4 @@ pub mod LittleNumbers
 pub mod LittleReading
 pub mod Writing
 pub mod Putting
+pub mod Ranges

@@ -4,8 +4,9 @@ use mathlib.Core.Path.{_≡_, refl, ap}
 use Prim.Native.Nat.{ℕ, zero, suc, _+_, _*_, _/_, _%_, _^_, _<_}
 use native.Mathlib.Nat.{suc-add, pow-zero, pow-suc, div-div-eq-div-mul, mul-comm, div-one}
 use native.Mathlib.Omega.{arith}
-use lib.ListN.{length, getD}
+use lib.ListN.{length}
 use Rattle.encoding.specs.LittleEndian.{littleEndian, littleBytes}
+use Rattle.encoding.specs.Ranges.{AllBytes}
 
 pub length-little : (n v : ℕ) → length (littleBytes n v) ≡ n
 unfolding littleBytes
@@ -27,13 +28,13 @@ unfolding littleBytes
 little-snoc zero v = simp (pow-zero, div-one)
 little-snoc (suc n) v = rw (suc-add, littleBytes, little-snoc n (v / 256), div-div-eq-div-mul, pow-suc, mul-comm 256)
 
--- ---- bytes, every one of them below 256
-pub little-below : (bs : List ℕ) → ((i : ℕ) → getD bs i 0 < 256) → littleEndian bs < 256 ^ length bs
+-- ---- of bytes
+pub little-below : (bs : List ℕ) → AllBytes bs → littleEndian bs < 256 ^ length bs
 unfolding littleEndian
 little-below [] h = rw pow-zero (omega arith)
 little-below (b ∷ bs) h = rw pow-suc (omega (arith, h 0, little-below bs (λ i. h (suc i))))
 
-pub bytes-of-little : (bs : List ℕ) → ((i : ℕ) → getD bs i 0 < 256) → littleBytes (length bs) (littleEndian bs) ≡ bs
+pub bytes-of-little : (bs : List ℕ) → AllBytes bs → littleBytes (length bs) (littleEndian bs) ≡ bs
 unfolding littleEndian littleBytes
 bytes-of-little [] h = refl
 bytes-of-little (b ∷ bs) h =

@@ -5,16 +5,18 @@ use mathlib.Core.Path.{_≡_, refl}
 use Prim.Native.Nat.{ℕ, _+_, _-_, _^_, _≤_, _<_, zero-le}
 use native.Mathlib.Omega.{arith}
 use native.Mathlib.Decide.{decLt}
-use lib.ListN.{length, take, drop, set, getD}
+use lib.ListN.{length, take, drop, set}
 use lib.Dec.{T, leb, ltb, leb→le, ltb→lt}
 use borrow.Author.Tests.{not-true, not-false}
 use Rattle.encoding.specs.Tried.{tried, numbered, NoneHolds, Decides}
 use Rattle.encoding.specs.BigEndian.{bigEndian}
 use Rattle.encoding.specs.LittleEndian.{littleEndian, littleBytes}
 use Rattle.encoding.specs.Written.{writtenAt}
+use Rattle.encoding.specs.Ranges.{Below, AllBytes}
 use Rattle.encoding.proofs.Reading as reading
 use Rattle.encoding.proofs.LittleNumbers as little
 use Rattle.encoding.proofs.Writing as writing
+use Rattle.encoding.proofs.Ranges as ranges
 
 -- ---- numbers and truth values
 -- a number is below another, or it is not
@@ -67,6 +69,23 @@ tried-most b (t ∷ ts) n =
     chosen-most (t .0) b (t .1) (tried ts) (leb→le (t .1) b (and-left (leb (t .1) b) (numbersAtMost b ts) n))
     (tried-most b ts (and-right (leb (t .1) b) (numbersAtMost b ts) n))
 
+-- ---- lists of numbers below b. That a slice of the code is such a list, with its type's b, is the contract of `bytes_known` and `words_known`.
+module _ (b : ℕ) where
+  pub below-cons : (x : ℕ) (l : List ℕ) → x < b → Below b l → Below b (x ∷ l)
+  below-cons = ranges.below-cons b
+
+  pub below-append : (k l : List ℕ) → Below b k → Below b l → Below b (k ++ l)
+  below-append = ranges.below-append b
+
+  pub below-take : (n : ℕ) (l : List ℕ) → Below b l → Below b (take n l)
+  below-take = ranges.below-take b
+
+  pub below-drop : (n : ℕ) (l : List ℕ) → Below b l → Below b (drop n l)
+  below-drop = ranges.below-drop b
+
+  pub below-set : (l : List ℕ) (i x : ℕ) → x < b → Below b l → Below b (set l i x)
+  below-set = ranges.below-set b
+
 -- ---- numbers in bytes, least significant byte first
 pub length-little : (n v : ℕ) → length (littleBytes n v) ≡ n
 length-little = little.length-little
@@ -75,15 +94,15 @@ length-little = little.length-little
 pub little-of-bytes : (n v : ℕ) → v < 256 ^ n → littleEndian (littleBytes n v) ≡ v
 little-of-bytes = little.little-of-bytes
 
--- of bytes, each below 256: the number fits them, and they are its bytes
-pub little-below : (bs : List ℕ) → ((i : ℕ) → getD bs i 0 < 256) → littleEndian bs < 256 ^ length bs
+-- of bytes: the number fits them, and they are its bytes
+pub little-below : (bs : List ℕ) → AllBytes bs → littleEndian bs < 256 ^ length bs
 little-below = little.little-below
 
-pub bytes-of-little : (bs : List ℕ) → ((i : ℕ) → getD bs i 0 < 256) → littleBytes (length bs) (littleEndian bs) ≡ bs
+pub bytes-of-little : (bs : List ℕ) → AllBytes bs → littleBytes (length bs) (littleEndian bs) ≡ bs
 bytes-of-little = little.bytes-of-little
 
 -- ---- and most significant byte first, likewise
-pub big-below : (e : List ℕ) (i n : ℕ) → ((j : ℕ) → getD e j 0 < 256) → bigEndian e i n < 256 ^ n
+pub big-below : (e : List ℕ) (i n : ℕ) → AllBytes e → bigEndian e i n < 256 ^ n
 big-below = reading.big-below
 
 -- ---- a list with bytes written into it

@@ -8,6 +8,7 @@ use native.Mathlib.Omega.{arith}
 use lib.ListN.{getD}
 use lib.Dec.{lit<}
 use Rattle.encoding.specs.BigEndian.{bigEndian}
+use Rattle.encoding.specs.Ranges.{AllBytes}
 
 -- k of the n bytes from i on are read, and their number is v
 pub record Reading (e : List ℕ) (i n v k : ℕ) : Type 0 where
@@ -38,8 +39,8 @@ module _ {e : List ℕ} {i n v k : ℕ} (r : Reading e i n v k) where
   pub reading-end : n ≤ k → (v ≡ bigEndian e i n) × (v < 256 ^ n)
   reading-end g = let q : k ≡ n = omega (arith, r .within) in (rw q at (r .same), rw q at (r .low))
 
--- of bytes, each below 256, the number fits them
-pub big-below : (e : List ℕ) (i n : ℕ) → ((j : ℕ) → getD e j 0 < 256) → bigEndian e i n < 256 ^ n
+-- of bytes, the number fits them
+pub big-below : (e : List ℕ) (i n : ℕ) → AllBytes e → bigEndian e i n < 256 ^ n
 unfolding bigEndian
 big-below e i zero h = rw pow-zero (omega arith)
 big-below e i (suc n) h = rw pow-suc (omega (arith, h (i + n), big-below e i n h))

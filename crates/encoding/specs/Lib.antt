@@ -3,3 +3,4 @@ pub mod Tried
 pub mod BigEndian
 pub mod LittleEndian
 pub mod Written
+pub mod Ranges

@@ -5,6 +5,29 @@ ghost use lib.ListN.{length, take, drop};
 ghost use Rattle.encoding.specs.BigEndian.{bigEndian};
 ghost use Rattle.encoding.specs.LittleEndian.{littleEndian, littleBytes};
 ghost use Rattle.encoding.specs.Written.{writtenAt};
+ghost use Rattle.encoding.specs.Ranges.{AllBytes, AllWords};
+
+// ---- what a slice's type says of all its elements. Where one of them is read, the range of every one is known: so the first is read, for a caller to know it of
+// any slice. The compiler removes the read.
+pub fn bytes_known(bytes: &[u8])
+    ensures { λ _. ⌜ AllBytes (now (bytes .entry)) ⌝ }
+{
+    if bytes.len() == 0 {
+        return;
+    }
+    let first = bytes[0];
+}
+
+pub fn words_known(words: &[u64])
+    ensures { λ _. ⌜ AllWords (now (words .entry)) ⌝ }
+{
+    if words.len() == 0 {
+        return;
+    }
+    let first = words[0];
+}
+
+// ---- numbers
 
 // A byte as a 64-bit number: the caller then knows that it is below 256.
 pub fn wide(byte: u8) -> u64

@@ -9,6 +9,7 @@ use lib.Seq.{drop-cons}
 use lib.Dec.{eqb, eqb→eq}
 use Rattle.encoding.specs.LittleEndian.{littleBytes}
 use Rattle.encoding.specs.Written.{writtenAt}
+use Rattle.encoding.specs.Ranges.{AllBytes}
 use Rattle.encoding.proofs.Promises.{and-left, and-right, little-of-bytes, written-store, written-more}
 use Rattle.frames.specs.Record.{Record, encodeAll, field}
 use Rattle.frames.specs.Frame.{encodeFrame}
@@ -35,7 +36,7 @@ abbrev Again : List ℕ → TrailerRead → Type 0
 Again l (trailer t n) = (t < 2 ^ 16) × (n < 2 ^ 32) × (l ≡ encodeTrailer t n)
 Again l brokenTrailer = Unit {0}
 
-module _ (l : List ℕ) (bytes : (i : ℕ) → getD l i 0 < 256) where
+module _ (l : List ℕ) (bytes : AllBytes l) where
   trailer-again : length l ≡ 8 → getD l 0 0 ≡ 0x46 → getD l 1 0 ≡ 0x00 → Again l (trailer (field l 2 2) (field l 4 4))
   unfolding encodeTrailer
   trailer-again long mark second =

@@ -4,12 +4,13 @@ use mathlib.Core.List.{List, _∷_, _++_, append-assoc}
 use mathlib.Core.Path.{_≡_, refl, ap, sym, _∙_}
 use Prim.Native.Nat.{ℕ, _+_, _^_, _≤_, _<_}
 use native.Mathlib.Omega.{arith}
-use lib.ListN.{length, getD, take, drop, length-append, length-take, length-drop, take-append-drop, List·getD-eq-default}
-use lib.Seq.{length-take-le, take-append-seam, drop-drop, getD-drop, getD-take, drop-cons}
-use lib.Dec.{T, leb, ltb, eqb, leb→le, ltb→lt, eqb→eq, lit<}
+use lib.ListN.{length, getD, take, drop, length-append, length-take, length-drop, take-append-drop}
+use lib.Seq.{length-take-le, take-append-seam, drop-drop, drop-cons}
+use lib.Dec.{T, leb, ltb, eqb, leb→le, ltb→lt, eqb→eq}
 use borrow.Author.Tests.{le-leb, lt-ltb}
 use Rattle.encoding.specs.LittleEndian.{littleBytes}
-use Rattle.encoding.proofs.Promises.{cases, and-left, and-right, little-of-bytes, little-below, bytes-of-little}
+use Rattle.encoding.specs.Ranges.{AllBytes}
+use Rattle.encoding.proofs.Promises.{and-left, and-right, below-take, below-drop, little-of-bytes, little-below, bytes-of-little}
 use Rattle.frames.specs.Record.{Record, memory, variable, encode, size, WellFormed, Decoded, found, broken, field, has, decodeMemory, decodeVariable, decode}
 
 pub size-encode : (r : Record) → length (encode r) ≡ size r
@@ -105,11 +106,9 @@ found-fits l e = rw e at (in-front l)
 pub piece : (l : List ℕ) (i n : ℕ) → drop i l ≡ take n (drop i l) ++ drop (i + n) l
 piece l i n = sym (take-append-drop n (drop i l)) ∙ ap (λ t. take n (drop i l) ++ t) (drop-drop n i l)
 
-module _ (l : List ℕ) (bytes : (i : ℕ) → getD l i 0 < 256) (i n : ℕ) where
-  piece-bytes : (j : ℕ) → getD (take n (drop i l)) j 0 < 256
-  piece-bytes j =
-      cases j n (λ h. rw (getD-take n (drop i l) j 0 h, getD-drop i l j 0) (bytes (i + j)))
-      (λ h. rw (List·getD-eq-default (take n (drop i l)) 0 {n = j} (omega (arith, length-take n (drop i l)))) (lit< tt))
+module _ (l : List ℕ) (bytes : AllBytes l) (i n : ℕ) where
+  piece-bytes : AllBytes (take n (drop i l))
+  piece-bytes = below-take 256 n (drop i l) (below-drop 256 i l bytes)
 
   module _ (h : i + n ≤ length l) where
     piece-length : length (take n (drop i l)) ≡ n
@@ -131,7 +130,7 @@ abbrev Again : List ℕ → Decoded → Type 0
 Again l (found r) = WellFormed r × (l ≡ encode r ++ drop (size r) l)
 Again l broken = Unit {0}
 
-module _ (l : List ℕ) (bytes : (i : ℕ) → getD l i 0 < 256) where
+module _ (l : List ℕ) (bytes : AllBytes l) where
   memory-again : FoundMemory l (field l 9 2) → Again l (found (memory (field l 1 8) (take (field l 9 2) (drop 11 l))))
   unfolding encode
   memory-again m =

@@ -4,9 +4,10 @@ use mathlib.Core.Path.{_≡_, refl, ap, sym, _∙_}
 use Prim.Native.Nat.{ℕ, zero, suc, _+_, _≤_, _<_}
 use native.Mathlib.Nat.{add-assoc, zero-add, not-suc-le-zero}
 use native.Mathlib.Omega.{arith}
-use lib.ListN.{length, getD, drop, length-append, length-drop, drop-of-length-le}
-use lib.Seq.{drop-at, getD-drop}
-use Rattle.encoding.proofs.Promises.{cases}
+use lib.ListN.{length, drop, length-append, length-drop, drop-of-length-le}
+use lib.Seq.{drop-at}
+use Rattle.encoding.specs.Ranges.{AllBytes}
+use Rattle.encoding.proofs.Promises.{cases, below-drop}
 use Rattle.frames.specs.Record.{Record, encode, encodeAll, size, AllWellFormed, Decoded, found, broken, decode}
 use Rattle.frames.specs.Division.{Division, records, brokenAt, after, afterAll, onward, divideAtMost, divide}
 use Rattle.frames.proofs.Decoding.{size-encode, decode-encode, InFront, in-front, found-fits, encode-decode}
@@ -93,7 +94,7 @@ split r (brokenAt i) rs e k = let z : _≡_ {A = ℕ} 0 1 = cc in absurd (omega 
 abbrev Encoded : List ℕ → List Record → Type 0
 Encoded l rs = AllWellFormed rs × (l ≡ encodeAll rs)
 
-module _ (l : List ℕ) (bytes : (i : ℕ) → getD l i 0 < 256) (f : List ℕ → Division)
+module _ (l : List ℕ) (bytes : AllBytes l) (f : List ℕ → Division)
     (again : (r : Record) → 1 ≤ size r → (ts : List Record) → f (drop (size r) l) ≡ records ts → Encoded (drop (size r) l) ts) where
   onward-again : (d : Decoded) → decode l ≡ d → (rs : List Record) → onward f l d ≡ records rs → Encoded l rs
   unfolding encodeAll
@@ -104,7 +105,7 @@ module _ (l : List ℕ) (bytes : (i : ℕ) → getD l i 0 < 256) (f : List ℕ �
       rw s ((front .0, rest .0), front .1 ∙ ap (λ t. encode r ++ t) (rest .1))
   onward-again broken e rs p = let z : _≡_ {A = ℕ} 0 1 = cc in absurd (omega arith)
 
-encoded-by : (n : ℕ) (l : List ℕ) → length l ≤ n → ((i : ℕ) → getD l i 0 < 256) → (rs : List Record) → divideAtMost n l ≡ records rs → Encoded l rs
+encoded-by : (n : ℕ) (l : List ℕ) → length l ≤ n → AllBytes l → (rs : List Record) → divideAtMost n l ≡ records rs → Encoded l rs
 unfolding divideAtMost encodeAll
 encoded-by zero [] h bytes rs e = let s : rs ≡ [] = cc in rw s (tt, refl)
 encoded-by zero (b ∷ l) h bytes rs e = absurd (not-suc-le-zero h)
@@ -112,10 +113,10 @@ encoded-by (suc n) [] h bytes rs e = let s : rs ≡ [] = cc in rw s (tt, refl)
 encoded-by (suc n) (b ∷ l) h bytes rs e =
     onward-again (b ∷ l) bytes (λ t. divideAtMost n t)
     (λ r p ts q. encoded-by n (drop (size r) (b ∷ l)) (omega (arith, length-drop (size r) (b ∷ l)))
-    (λ i. rw (getD-drop (size r) (b ∷ l) i 0) (bytes (size r + i))) ts q)
+    (below-drop 256 (size r) (b ∷ l) bytes) ts q)
     (decode (b ∷ l)) refl rs e
 
-pub divided-encoded : (l : List ℕ) → ((i : ℕ) → getD l i 0 < 256) → (rs : List Record) → divide l ≡ records rs → AllWellFormed rs × (l ≡ encodeAll rs)
+pub divided-encoded : (l : List ℕ) → AllBytes l → (rs : List Record) → divide l ≡ records rs → AllWellFormed rs × (l ≡ encodeAll rs)
 unfolding divide
 divided-encoded l bytes rs e = encoded-by (length l) l (omega arith) bytes rs e
 

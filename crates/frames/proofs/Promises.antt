@@ -3,9 +3,11 @@ use mathlib.Core.Bool.{Bool, true}
 use mathlib.Core.List.{List, [], _∷_, _++_}
 use mathlib.Core.Path.{_≡_, refl}
 use Prim.Native.Nat.{ℕ, _+_, _-_, _^_, _≤_, _<_}
-use lib.ListN.{length, getD, take, drop}
+use lib.ListN.{length, take, drop}
 use Rattle.encoding.specs.LittleEndian.{littleEndian, littleBytes}
 use Rattle.encoding.specs.Written.{writtenAt}
+use Rattle.encoding.specs.Ranges.{AllBytes}
+use Rattle.encoding.proofs.bytes_known as bytes-known
 use Rattle.frames.specs.Record.{Record, encode, encodeAll, size, WellFormed, AllWellFormed, Decoded, found, broken, decodeMemory, decodeVariable, decode}
 use Rattle.frames.specs.Division.{Division, records, brokenAt, after, afterAll, divideAtMost, divide}
 use Rattle.frames.specs.Trailer.{trailerSize, encodeTrailer, trailer, decodeTrailer}
@@ -21,6 +23,10 @@ use Rattle.frames.proofs.Closing as closing
 use Rattle.frames.proofs.Fitting as fitting
 use Rattle.frames.proofs.Reading as reading
 
+-- ---- the laws below that ask for bytes hold of any slice that a caller lends: of all its elements `bytes_known` ensures it
+pub lent-bytes : {M : Type 1} → bytes-known.Statement.statement M
+lent-bytes = bytes-known.Met.met
+
 -- ---- a record and its bytes
 -- 11 + the number of bytes, or 13
 pub length-encode : (r : Record) → length (encode r) ≡ size r
@@ -35,7 +41,7 @@ pub found-fits : (l : List ℕ) {r : Record} → decode l ≡ found r → (1 ≤
 found-fits = decoding.found-fits
 
 -- what is read from bytes is well formed, and the bytes read are its encoding
-pub encode-decode : (l : List ℕ) → ((i : ℕ) → getD l i 0 < 256) → {r : Record} → decode l ≡ found r → WellFormed r × (l ≡ encode r ++ drop (size r) l)
+pub encode-decode : (l : List ℕ) → AllBytes l → {r : Record} → decode l ≡ found r → WellFormed r × (l ≡ encode r ++ drop (size r) l)
 encode-decode = decoding.encode-decode
 
 pub encode-all-append : (rs ts : List Record) → encodeAll (rs ++ ts) ≡ encodeAll rs ++ encodeAll ts
@@ -72,7 +78,7 @@ module _ (rs : List Record) where
   divide-all = dividing.divide-all rs
 
 -- bytes that divide are the encoding of their records, which are well formed
-pub divided-encoded : (l : List ℕ) → ((i : ℕ) → getD l i 0 < 256) → (rs : List Record) → divide l ≡ records rs → AllWellFormed rs × (l ≡ encodeAll rs)
+pub divided-encoded : (l : List ℕ) → AllBytes l → (rs : List Record) → divide l ≡ records rs → AllWellFormed rs × (l ≡ encodeAll rs)
 divided-encoded = dividing.divided-encoded
 
 -- the first record of bytes that divide, and the rest
@@ -98,7 +104,7 @@ frame-length = closing.frame-length
 pub decode-trailer : (t n : ℕ) → t < 2 ^ 16 → n < 2 ^ 32 → decodeTrailer (encodeTrailer t n) ≡ trailer t n
 decode-trailer = closing.decode-trailer
 
-pub encode-trailer : (l : List ℕ) → ((i : ℕ) → getD l i 0 < 256) → {t n : ℕ} → decodeTrailer l ≡ trailer t n → (t < 2 ^ 16) × (n < 2 ^ 32) × (l ≡ encodeTrailer t n)
+pub encode-trailer : (l : List ℕ) → AllBytes l → {t n : ℕ} → decodeTrailer l ≡ trailer t n → (t < 2 ^ 16) × (n < 2 ^ 32) × (l ≡ encodeTrailer t n)
 encode-trailer = closing.encode-trailer
 
 -- ---- the writers

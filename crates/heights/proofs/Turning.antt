@@ -36,7 +36,7 @@ module _ {e : List ℕ} (a : Acceptable e) where
     forward = goes-forward e accepted-is x
 
     after-cell : (m : ℕ) → After e j m → m < 1024
-    after-cell m t = omega (arith, start-in e m (walk-last (onward-walk t)), a .short)
+    after-cell m t = omega (arith, start-in e m (walk-last (onward-walk t)), a .sized .short)
 
     -- two walks to one instruction arrive at one height
     one-height : {v : List ℕ} {t : ℕ} → Walk e 0 0 v j t → t ≡ u
@@ -71,7 +71,7 @@ module _ {e : List ℕ} {i : ℕ} {hs : List ℕ} (f : Filling e i hs) where
   -- what is known of a start whose cell is not 255
   module _ (k : ℕ) (s : isStart e k ≡ true) (r : getD hs k 0 ≢ unreached) where
     walk-to : (w : List ℕ) × Walk e 0 0 w k (getD hs k 0)
-    walk-to = f .shown k (omega (arith, start-in e k s, f .acceptable .short)) r
+    walk-to = f .shown k (omega (arith, start-in e k s, f .acceptable .sized .short)) r
 
     after-low : heightAfter e k (getD hs k 0) ≤ 64
     after-low = last-ready (f .acceptable) (walk-to .1) .room
@@ -84,7 +84,7 @@ module _ {e : List ℕ} {i : ℕ} {hs : List ℕ} (f : Filling e i hs) where
           cells = row-cells e k (getD hs k 0) (r .needed) (r .left) (q .needed-is) (q .left-is) (y .cells);
           after = after-row e k (getD hs k 0) (r .needed) (r .left) (q .needed-is) (q .left-is) (y .cells);
           low = y .room;
-          room = record { short = f .acceptable .short; inside = y .inside; long = f .long; cell = after-cell (f .acceptable) (walk-to .1) };
+          room = record { short = f .acceptable .sized .short; inside = y .inside; long = f .long; cell = after-cell (f .acceptable) (walk-to .1) };
         }
 
   module _ (h : i < length e) where

@@ -3,8 +3,9 @@ use mathlib.Core.List.{List, [], _∷_}
 use mathlib.Core.Path.{_≡_, sym, ap, _∙_}
 use Prim.Native.Nat.{ℕ}
 use native.Mathlib.Omega.{arith}
+use Rattle.machine.specs.Fed.{Fed}
 use Rattle.machine.specs.Machine.{Ended, completed, stopped}
-use Rattle.machine.specs.Run.{numberOf, usedOf}
+use Rattle.machine.specs.Run.{ended, numberOf, usedOf}
 use Rattle.runner.specs.Returned.{returned, returnedBy, answerOf, Ran}
 use Rattle.runner.specs.declared.Value.{Value}
 use Rattle.runner.specs.declared.Outcome.{Outcome}
@@ -29,8 +30,8 @@ module _ (t u : ℕ) {r : Outcome} (o : Ended) (p : returnedBy r ≡ returned t 
   told-completed {x} q a e = rw e at (completed-by t u x o (ap returnedBy (sym q) ∙ p))
 
 -- numbers that tell the runner's outcome, whatever the end, tell how the run ended
-pub told-run : {t : ℕ} {v b : List ℕ} {u : ℕ} {o : Ended} {r : Outcome} {v′ b′ : List ℕ} {number : ℕ} {values : List ℕ} → Ran t v b u o r v′ b′
-    → ((s : ℕ) (q : Ended) → returnedBy r ≡ returned s u q → Told s u q number values) → ToldRun t v b u o number values v′ b′
-told-run {t} {v} {b} {u} {o} ran tells =
-    let x = tells t o (ran .answer) in
-    record { number-of = x .number-of; values-of = x .values-of; variables-of = ran .variables; buffer-of = ran .buffer }
+pub told-run : {m : Fed} {t : ℕ} {v b : List ℕ} {u allowance : ℕ} {r : Outcome} {v′ b′ : List ℕ} {number : ℕ} {values : List ℕ} → Ran m t v b u allowance r v′ b′
+    → ((s : ℕ) (q : Ended) → returnedBy r ≡ returned s u q → Told s u q number values) → ToldRun m t v b u allowance number values v′ b′
+told-run {m} {t} {v} {b} {u} {allowance} ran tells =
+    let x = tells t (ended m v b u allowance) (ran .answer) in
+    record { number-of = x .number-of; values-of = x .values-of; variables-of = ran .variables; buffer-of = ran .buffer; typed = ran .typed }

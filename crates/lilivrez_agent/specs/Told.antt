@@ -2,8 +2,10 @@
 use mathlib.Core.List.{List, [], _∷_}
 use mathlib.Core.Path.{_≡_}
 use Prim.Native.Nat.{ℕ}
+use Rattle.machine.specs.Fed.{Fed}
 use Rattle.machine.specs.Machine.{Answer, no-value, top, top-and-beneath, Ended, completed, stopped}
-use Rattle.machine.specs.Run.{numberOf, variablesOf, usedOf, bufferOf}
+use Rattle.machine.specs.Run.{ended, numberOf, variablesOf, usedOf, bufferOf}
+use Rattle.machine.specs.Recorded.{Typed}
 
 -- the run completed
 abbrev pub Completed : Ended → Type 0
@@ -26,9 +28,11 @@ pub record Told (t u : ℕ) (o : Ended) (number : ℕ) (values : List ℕ) : Typ
   pub number-of : number ≡ numberOf o
   pub values-of : values ≡ valuesOf t u o
 
--- the same with the variables v′ and the buffer b′ that the run leaves, where v and b are given
-pub record ToldRun (t : ℕ) (v b : List ℕ) (u : ℕ) (o : Ended) (number : ℕ) (values v′ b′ : List ℕ) : Type 0 where
-  pub number-of : number ≡ numberOf o
-  pub values-of : values ≡ valuesOf t u o
-  pub variables-of : v′ ≡ variablesOf v o
-  pub buffer-of : b′ ≡ bufferOf t b u o
+-- the same of a run that is given m, t, v, b, u and the allowance, with the variables v′ and the buffer b′ that it leaves; and what it is given is what the types of
+-- the code say
+pub record ToldRun (m : Fed) (t : ℕ) (v b : List ℕ) (u allowance : ℕ) (number : ℕ) (values v′ b′ : List ℕ) : Type 0 where
+  pub number-of : number ≡ numberOf (ended m v b u allowance)
+  pub values-of : values ≡ valuesOf t u (ended m v b u allowance)
+  pub variables-of : v′ ≡ variablesOf v (ended m v b u allowance)
+  pub buffer-of : b′ ≡ bufferOf t b u (ended m v b u allowance)
+  pub typed : Typed m t v

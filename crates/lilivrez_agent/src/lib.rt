@@ -3,7 +3,7 @@ ghost use mathlib.Core.Path.{_≡_};
 ghost use Prim.Native.Nat.{ℕ};
 ghost use Rattle.machine.specs.Fed.{fed};
 ghost use Rattle.machine.specs.Machine.{Ended};
-ghost use Rattle.machine.specs.Run.{ended, defaultAllowance};
+ghost use Rattle.machine.specs.Run.{defaultAllowance};
 ghost use Rattle.runner.specs.Returned.{returned, returnedBy};
 ghost use Rattle.memory.specs.Fetch.{fetchRefusal};
 ghost use Rattle.reader.specs.Located.{located, walked};
@@ -91,7 +91,7 @@ pub extern "C" fn lilivrez_run<'a>(
     allowance: u64,
     out: &mut [u64; 6],
 ) -> u32
-    ensures { λ r. ⌜ ToldRun tracepoint (now (variables .entry)) (now (buffer .entry)) used (ended (fed (now (expression .entry)) (now (registers .entry)) «image_first» (now (image .entry)) «work_first» (now (work .entry))) (now (variables .entry)) (now (buffer .entry)) used allowance) r (now (out .exit)) (now (variables .exit)) (now (buffer .exit)) ⌝ }
+    ensures { λ r. ⌜ ToldRun (fed (now (expression .entry)) (now (registers .entry)) «image_first» (now (image .entry)) «work_first» (now (work .entry))) tracepoint (now (variables .entry)) (now (buffer .entry)) used allowance r (now (out .exit)) (now (variables .exit)) (now (buffer .exit)) ⌝ }
 {
     let outcome = runner::run(
         expression,
@@ -124,7 +124,7 @@ pub extern "C" fn lilivrez_run_default<'a>(
     tracepoint: u16,
     out: &mut [u64; 6],
 ) -> u32
-    ensures { λ r. ⌜ ToldRun tracepoint (now (variables .entry)) (now (buffer .entry)) used (ended (fed (now (expression .entry)) (now (registers .entry)) «image_first» (now (image .entry)) «work_first» (now (work .entry))) (now (variables .entry)) (now (buffer .entry)) used defaultAllowance) r (now (out .exit)) (now (variables .exit)) (now (buffer .exit)) ⌝ }
+    ensures { λ r. ⌜ ToldRun (fed (now (expression .entry)) (now (registers .entry)) «image_first» (now (image .entry)) «work_first» (now (work .entry))) tracepoint (now (variables .entry)) (now (buffer .entry)) used defaultAllowance r (now (out .exit)) (now (variables .exit)) (now (buffer .exit)) ⌝ }
 {
     lilivrez_run(
         expression,

@@ -9,7 +9,7 @@ use Rattle.isa.specs.Classes.{kind-end}
 use Rattle.isa.specs.Decode.{kindAt, needed, left, heightAfter}
 use Rattle.isa.specs.Walk.{After}
 use Rattle.memory.specs.Spans.{spansRefusal}
-use Rattle.memory.specs.Fetch.{targetByte}
+use Rattle.memory.specs.Fetch.{InTarget, targetByte}
 use Rattle.frames.specs.Trailer.{trailerSize}
 use Rattle.frames.specs.Record.{Record, encodeAll, memory, AllWellFormed}
 use Rattle.verifier.specs.Verdict.{accepted, refused, verdict}
@@ -130,14 +130,16 @@ completed-fits = ending.completed-fits
 pub records-from-target : (m : Fed) (v buffer : List ℕ) (used allowance : ℕ) → AllFromTarget m (recordsOf (ended m v buffer used allowance))
 records-from-target = recorded.records-from-target
 
--- the same byte by byte, where inputs are not refused
+-- the same byte by byte, where inputs are not refused: a span holds the byte's address, and the byte is the target's there
 pub spans-fine : (m : Fed) (buffer : List ℕ) (used : ℕ) → inputRefusal m buffer used ≡ 0 → spansRefusal (m .image-first) (m .image) (m .work-first) (m .work) ≡ 0
 spans-fine = made.spans-fine
 
 pub recorded-byte : (m : Fed) → spansRefusal (m .image-first) (m .image) (m .work-first) (m .work) ≡ 0 → (a : ℕ) (bytes : List ℕ) → FromTarget m (memory a bytes)
-    → (i : ℕ) → i < length bytes → getD bytes i 0 ≡ targetByte (m .image-first) (m .image) (m .work-first) (m .work) (a + i)
+    → (i : ℕ) → i < length bytes
+    → InTarget (m .image-first) (m .image) (m .work-first) (m .work) (a + i)
+    × (getD bytes i 0 ≡ targetByte (m .image-first) (m .image) (m .work-first) (m .work) (a + i))
 recorded-byte = recorded.recorded-byte
 
--- ---- every record of a run can be encoded and read back, where the inputs are what their types say
-pub records-well-formed : (m : Fed) (v buffer : List ℕ) (used allowance : ℕ) → Typed m v → AllWellFormed (recordsOf (ended m v buffer used allowance))
+-- ---- every record of a run can be encoded and read back, of inputs that are what their types say, as any are: the contract of `typed`
+pub records-well-formed : {m : Fed} {t : ℕ} {v : List ℕ} → Typed m t v → (buffer : List ℕ) (used allowance : ℕ) → AllWellFormed (recordsOf (ended m v buffer used allowance))
 records-well-formed = well-formed.records-well-formed

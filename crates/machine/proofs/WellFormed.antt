@@ -5,11 +5,11 @@ use mathlib.Core.Path.{_≡_, refl}
 use Prim.Native.Nat.{ℕ, zero, suc, _+_, _-_, _^_, _≤_, _<_}
 use native.Mathlib.Nat.{pow-le-pow-right}
 use native.Mathlib.Omega.{arith}
-use lib.ListN.{length, getD, take, drop, set, length-take}
-use lib.Seq.{getD-drop}
+use lib.ListN.{length, getD, take, drop, length-take}
 use lib.Dec.{eqb, leb, ltb, lit<}
 use Rattle.encoding.specs.LittleEndian.{littleEndian}
-use Rattle.encoding.proofs.Promises.{little-below, big-below}
+use Rattle.encoding.specs.Ranges.{AllBytes, AllWords}
+use Rattle.encoding.proofs.Promises.{below-cons, below-append, below-take, below-drop, below-set, little-below, big-below}
 use Rattle.isa.specs.Classes.{Class, binary, trace, tracenz, unary, ref, trace-quick, ext, zero-ext, setv, if-goto, goto, constant, reg, getv, tracev, end, dup, pop, swap, pick, rot, unsupported, unknown, kind-ext}
 use Rattle.isa.specs.Decode.{classAt, kindAt, operandBytes, operand, needed}
 use Rattle.isa.proofs.Promises.{operands-most, ref-most}
@@ -29,42 +29,13 @@ use Rattle.machine.proofs.Cells.{by-test}
 use Rattle.machine.proofs.Following.{OnWalk, walk-begins, walk-ready, walk-moves}
 use Rattle.machine.proofs.Made.{OfMemory, Keeps, records-all}
 
--- ---- lists of numbers below b, which are bytes or words
-abbrev Below : ℕ → List ℕ → Type 0
-Below b l = (i : ℕ) → getD l i 0 < b
-
-module _ (b : ℕ) where
-  below-cons : (x : ℕ) (l : List ℕ) → x < b → Below b l → Below b (x ∷ l)
-  below-cons x l h t zero = h
-  below-cons x l h t (suc i) = t i
-
-  below-append : (k l : List ℕ) → Below b k → Below b l → Below b (k ++ l)
-  below-append [] l h t = t
-  below-append (x ∷ k) l h t = below-cons x (k ++ l) (h 0) (below-append k l (λ i. h (suc i)) t)
-
-  below-take : (n : ℕ) (l : List ℕ) → Below b l → Below b (take n l)
-  below-take zero l h = λ _. omega (arith, h 0)
-  below-take (suc n) [] h = h
-  below-take (suc n) (x ∷ l) h = below-cons x (take n l) (h 0) (below-take n l (λ i. h (suc i)))
-
-  below-drop : (n : ℕ) (l : List ℕ) → Below b l → Below b (drop n l)
-  below-drop n l h i = rw getD-drop (h (n + i))
-
-  below-set : (l : List ℕ) (i x : ℕ) → x < b → Below b l → Below b (set l i x)
-  below-set [] i x t h = h
-  below-set (y ∷ l) zero x t h = below-cons x l t (λ j. h (suc j))
-  below-set (y ∷ l) (suc i) x t h = below-cons y (set l i x) (h 0) (below-set l i x t (λ j. h (suc j)))
-
 abbrev Word : ℕ → Type 0
 Word x = x < 2 ^ 64
 
-abbrev Words : List ℕ → Type 0
-Words l = Below (2 ^ 64) l
-
-no-words : Words []
+no-words : AllWords []
 no-words i = omega arith
 
-one-word : (x : ℕ) → Word x → Words (x ∷ [])
+one-word : (x : ℕ) → Word x → AllWords (x ∷ [])
 one-word x h = below-cons (2 ^ 64) x [] h no-words
 
 -- ---- the words that an instruction leaves
@@ -97,21 +68,21 @@ eight-bytes x n h t = let p : 256 ^ n ≤ 256 ^ 8 = pow-le-pow-right (lit< tt) t
 
 -- the cells left are words
 abbrev LeavesWords : Done → Type 0
-LeavesWords (leaves cells rs) = Words cells
+LeavesWords (leaves cells rs) = AllWords cells
 LeavesWords (faults n) = Unit {0}
 
-recording-words : (cells : List ℕ) (r : Made) → Words cells → LeavesWords (recording cells r)
+recording-words : (cells : List ℕ) (r : Made) → AllWords cells → LeavesWords (recording cells r)
 recording-words cells (made rs) h = h
 recording-words cells (refuses n) h = tt
 
 -- at most n bytes
 abbrev Few : ℕ → List ℕ → Type 0
-Few n l = Below 256 l × (length l ≤ n)
+Few n l = AllBytes l × (length l ≤ n)
 
-part-few : (n i : ℕ) (l : List ℕ) → Below 256 l → Few n (take n (drop i l))
+part-few : (n i : ℕ) (l : List ℕ) → AllBytes l → Few n (take n (drop i l))
 part-few n i l h = (below-take 256 n _ (below-drop 256 i l h), omega (arith, length-take n (drop i l)))
 
-module _ (m : Fed) (given : List ℕ) (typed : Typed m given) where
+module _ {m : Fed} {t : ℕ} {given : List ℕ} (typed : Typed m t given) where
   operand-word : (k : ℕ) → Word (operand (m .expression) k)
   unfolding operand
   operand-word k =
@@ -132,7 +103,7 @@ module _ (m : Fed) (given : List ℕ) (typed : Typed m given) where
       let w = fetched-bytes a n in
       eight-bytes _ _ (little-below (fetched (m .image-first) (m .image) (m .work-first) (m .work) a n) (w .0)) (omega (arith, w .1))
 
-  module _ (k : ℕ) (s v : List ℕ) (free : ℕ) (cells : Words s) (values : Words v) (some : kindAt (m .expression) k ≡ kind-ext → 1 ≤ operand (m .expression) k) where
+  module _ (k : ℕ) (s v : List ℕ) (free : ℕ) (cells : AllWords s) (values : AllWords v) (some : kindAt (m .expression) k ≡ kind-ext → 1 ≤ operand (m .expression) k) where
     meaning-words : (op : ℕ) (c : Class) → classAt (m .expression) k ≡ c → LeavesWords (meaning m s v free op (operand (m .expression) k) c)
     unfolding binaryDone refDone regDone endDone
     meaning-words op binary p = by-test LeavesWords (zeroDivisor op (getD s 0 0)) _ _ (λ _. tt) (λ _. one-word _ (binary-word op _ _ (cells 1) (cells 0)))
@@ -172,18 +143,18 @@ module _ (m : Fed) (given : List ℕ) (typed : Typed m given) where
 -- what each move keeps
 record Running (m : Fed) (st : State) : Type 0 where
   walk : OnWalk (m .expression) (st .offset) (st .stack) (st .steps)
-  cells : Words (st .stack)
-  values : Words (st .variables)
+  cells : AllWords (st .stack)
+  values : AllWords (st .variables)
 
-stack-words : (e : List ℕ) (k : ℕ) (s cells : List ℕ) → Words s → Words cells → Words (stackAfter e k s cells)
+stack-words : (e : List ℕ) (k : ℕ) (s cells : List ℕ) → AllWords s → AllWords cells → AllWords (stackAfter e k s cells)
 unfolding stackAfter
 stack-words e k s cells h t = below-append (2 ^ 64) cells _ t (below-drop (2 ^ 64) (needed e k) s h)
 
-variables-words : (e : List ℕ) (k : ℕ) (s v : List ℕ) → Words s → Words v → Words (variablesAfter e k s v)
+variables-words : (e : List ℕ) (k : ℕ) (s v : List ℕ) → AllWords s → AllWords v → AllWords (variablesAfter e k s v)
 unfolding variablesAfter
-variables-words e k s v h t = by-test Words (eqb (getD e k 0) 0x2d) _ _ (λ _. below-set (2 ^ 64) v (operand e k) _ (h 0) t) (λ _. t)
+variables-words e k s v h t = by-test AllWords (eqb (getD e k 0) 0x2d) _ _ (λ _. below-set (2 ^ 64) v (operand e k) _ (h 0) t) (λ _. t)
 
-module _ (m : Fed) (v : List ℕ) (typed : Typed m v) (room : ℕ) {n g l : ℕ} (a : Accepted (m .expression) n g l) where
+module _ {m : Fed} {t : ℕ} {v : List ℕ} (typed : Typed m t v) (room : ℕ) {n g l : ℕ} (a : Accepted (m .expression) n g l) where
   keeps : Keeps m v room WellFormed (Running m)
   keeps = record {
     first = record { walk = walk-begins a; cells = no-words; values = typed .variables };
@@ -191,7 +162,7 @@ module _ (m : Fed) (v : List ℕ) (typed : Typed m v) (room : ℕ) {n g l : ℕ}
     kept = λ st f cells rs e h. record {
       walk = walk-moves m a (f .walk) (st .variables) _ e h;
       cells = stack-words (m .expression) (st .offset) (st .stack) cells (f .cells)
-          (rw e at (done-words m v typed (st .offset) (st .stack) (st .variables) (room - length (encodeAll (st .records))) (f .cells) (f .values) (walk-ready a (f .walk) .ext-some)));
+          (rw e at (done-words typed (st .offset) (st .stack) (st .variables) (room - length (encodeAll (st .records))) (f .cells) (f .values) (walk-ready a (f .walk) .ext-some)));
       values = variables-words (m .expression) (st .offset) (st .stack) (st .variables) (f .cells) (f .values);
     };
   }
@@ -207,6 +178,6 @@ memory-well m fine a bytes from some most =
     }
 
 -- ---- whole runs
-pub records-well-formed : (m : Fed) (v buffer : List ℕ) (used allowance : ℕ) → Typed m v → AllWellFormed (recordsOf (ended m v buffer used allowance))
-records-well-formed m v buffer used allowance typed =
-    records-all m v buffer used allowance WellFormed (memory-well m) (Running m) (λ _ _ _ a. keeps m v typed (length buffer - used) a) AllWellFormed tt (λ _ _ p q. (p, q))
+pub records-well-formed : {m : Fed} {t : ℕ} {v : List ℕ} → Typed m t v → (buffer : List ℕ) (used allowance : ℕ) → AllWellFormed (recordsOf (ended m v buffer used allowance))
+records-well-formed {m} {t} {v} typed buffer used allowance =
+    records-all m v buffer used allowance WellFormed (memory-well m) (Running m) (λ _ _ _ a. keeps typed (length buffer - used) a) AllWellFormed tt (λ _ _ p q. (p, q))

@@ -2,7 +2,8 @@
 use mathlib.Core.List.{List, [], _∷_}
 use mathlib.Core.Logic.{_⊎_}
 use Prim.Native.Nat.{ℕ, _^_, _<_}
-use lib.ListN.{length, getD}
+use lib.ListN.{length}
+use Rattle.encoding.specs.Ranges.{AllBytes, AllWords}
 use Rattle.frames.specs.Record.{Record, memory, variable}
 use Rattle.memory.specs.Fetch.{PartOf}
 use Rattle.machine.specs.Fed.{Fed}
@@ -23,9 +24,11 @@ recordsOf (completed a n v rs) = rs
 recordsOf (stopped r k n rs) = rs
 
 -- what the types of a run's inputs say: expression and spans are bytes, registers and variables are words of 64 bits
-pub record Typed (m : Fed) (v : List ℕ) : Type 0 where
-  pub expression : (i : ℕ) → getD (m .expression) i 0 < 256
-  pub registers : (i : ℕ) → getD (m .registers) i 0 < 2 ^ 64
-  pub image : (i : ℕ) → getD (m .image) i 0 < 256
-  pub work : (i : ℕ) → getD (m .work) i 0 < 256
-  pub variables : (i : ℕ) → getD v i 0 < 2 ^ 64
+pub record Typed (m : Fed) (t : ℕ) (v : List ℕ) : Type 0 where
+  pub expression : AllBytes (m .expression)
+  pub registers : AllWords (m .registers)
+  pub image : AllBytes (m .image)
+  pub work : AllBytes (m .work)
+  pub variables : AllWords v
+  -- "Tracepoint numbers: 0 to 65,535."
+  pub tracepoint : t < 2 ^ 16

@@ -34,7 +34,11 @@ unfoldable pub fetched : ℕ → List ℕ → ℕ → List ℕ → ℕ → ℕ �
 fetched f image g work a k =
     cond (eqb (fetchRefusal f image g work a k) 0) (whichever f image g work a k (λ first bytes. take k (drop (a - first) bytes)) []) []
 
--- the target's byte at the address x, and 0 where no span holds it
+-- a span holds the address x
+abbrev pub InTarget : ℕ → List ℕ → ℕ → List ℕ → ℕ → Type 0
+InTarget f image g work x = InSpan f (length image) x ⊎ InSpan g (length work) x
+
+-- the target's byte at the address x, which a span holds (`InTarget`); 0 where none does, so that this alone does not say that there is a byte
 unfoldable pub targetByte : ℕ → List ℕ → ℕ → List ℕ → ℕ → ℕ
 targetByte f image g work x = whichever f image g work x 1 (λ first bytes. getD bytes (x - first) 0) 0
 

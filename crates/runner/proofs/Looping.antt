@@ -28,7 +28,7 @@ use Rattle.machine.proofs.Promises.{OnWalk, walk-begins, walk-ready, walk-moves
 use Rattle.operations.specs.Here.{Place}
 use Rattle.operations.specs.declared.Next.{Next}
 use Rattle.stepping.specs.Effect.{Effect, goes, completes, refuses, effectOf, effect, Did}
-use Rattle.runner.specs.Returned.{refusedWith, returned, answerOf, Ran}
+use Rattle.runner.specs.Returned.{refusedWith, returned, answerOf, EndsAs}
 use Rattle.runner.specs.declared.Value.{Value}
 use Rattle.runner.specs.declared.Outcome.the-variants.{Completed, Refused}
 
@@ -111,7 +111,7 @@ module _ {m : Fed} {c₀ g₀ l₀ : ℕ} (acc : Accepted (m .expression) c₀ g
       record {
         table-is = q;
         long = l .long;
-        short = acc .acceptable .short;
+        short = acc .acceptable .sized .short;
         inside = r .inside;
         supported = r .known;
         ext-some = r .ext-some;
@@ -180,7 +180,7 @@ module _ {m : Fed} {c₀ g₀ l₀ : ℕ} (acc : Accepted (m .expression) c₀ g
   room-by (refuses x) q d o = absurd (omega (arith, d .stop, refuses-high acc l (done m k (held a h) v (length b - p)) refl (eqb (kindAt (m .expression) k) kind-end) refl q))
 
   ends-by : (e : Effect) → effect m k (held a h) v (length b - p) ≡ e → Did k (held a h) v b p e r c v′ b′ → r .stop ≡ 1 → (t : ℕ) {x : List ℕ} {z : Value} → x ≡ writtenAt b′ (r .put) (encodeTrailer t (r .put - u))
-      → answerOf z ≡ answer (held c (r .height)) → Ran t g b₀ u (moves m (length b₀ - u) max (begin g)) (Completed z (n + 1) (r .put + trailerSize)) v′ x
+      → answerOf z ≡ answer (held c (r .height)) → EndsAs t g b₀ u (moves m (length b₀ - u) max (begin g)) (Completed z (n + 1) (r .put + trailerSize)) v′ x
   unfolding effect encodeAll leftBytes returned usedOf variablesOf bufferOf
   ends-by completes q d one t {x} {z} hx hz =
       let o : r .put ≡ p = omega (arith, d .put) in
@@ -198,7 +198,7 @@ module _ {m : Fed} {c₀ g₀ l₀ : ℕ} (acc : Accepted (m .expression) c₀ g
   ends-by (refuses x) q d o t hx hz = absurd (omega (arith, d .stop, refuses-high acc l (done m k (held a h) v (length b - p)) refl (eqb (kindAt (m .expression) k) kind-end) refl q))
 
   halts-by : (e : Effect) → effect m k (held a h) v (length b - p) ≡ e → Did k (held a h) v b p e r c v′ b′ → r .stop ≢ 0 → r .stop ≢ 1 → (t : ℕ)
-      → {w : List ℕ} → w ≡ g → Ran t g b₀ u (moves m (length b₀ - u) max (begin g)) (Refused (r .stop) (r .at) n) w b′
+      → {w : List ℕ} → w ≡ g → EndsAs t g b₀ u (moves m (length b₀ - u) max (begin g)) (Refused (r .stop) (r .at) n) w b′
   unfolding effect encodeAll leftBytes returned usedOf variablesOf bufferOf
   halts-by (refuses x) q d h0 h1 t kept = rw (followed l lt q, d .at) (record {
     answer = ap (λ (y : ℕ). refusedWith y k n) (d .stop);
@@ -216,16 +216,16 @@ module _ {m : Fed} {c₀ g₀ l₀ : ℕ} (acc : Accepted (m .expression) c₀ g
     room-left = room-by (effect m k (held a h) v (length b - p)) refl d
 
     pub ends : r .stop ≡ 1 → (t : ℕ) {x : List ℕ} {z : Value} → x ≡ writtenAt b′ (r .put) (encodeTrailer t (r .put - u)) → answerOf z ≡ answer (held c (r .height))
-        → Ran t g b₀ u (moves m (length b₀ - u) max (begin g)) (Completed z (n + 1) (r .put + trailerSize)) v′ x
+        → EndsAs t g b₀ u (moves m (length b₀ - u) max (begin g)) (Completed z (n + 1) (r .put + trailerSize)) v′ x
     ends = ends-by (effect m k (held a h) v (length b - p)) refl d
 
     -- where the lent variables w are those given
-    pub halts : r .stop ≢ 0 → r .stop ≢ 1 → (t : ℕ) → {w : List ℕ} → w ≡ g → Ran t g b₀ u (moves m (length b₀ - u) max (begin g)) (Refused (r .stop) (r .at) n) w b′
+    pub halts : r .stop ≢ 0 → r .stop ≢ 1 → (t : ℕ) → {w : List ℕ} → w ≡ g → EndsAs t g b₀ u (moves m (length b₀ - u) max (begin g)) (Refused (r .stop) (r .at) n) w b′
     halts = halts-by (effect m k (held a h) v (length b - p)) refl d
 
 -- ---- the allowance is spent
 module _ {m : Fed} {b₀ : List ℕ} {u : ℕ} {g : List ℕ} {max : ℕ} {v b : List ℕ} {a : List ℕ} {h k p n : ℕ} (l : Loop m b₀ u g max v b a h k p n) where
-  pub spent : max ≤ n → (t : ℕ) → {w : List ℕ} → w ≡ g → Ran t g b₀ u (moves m (length b₀ - u) max (begin g)) (Refused 16 k n) w b
+  pub spent : max ≤ n → (t : ℕ) → {w : List ℕ} → w ≡ g → EndsAs t g b₀ u (moves m (length b₀ - u) max (begin g)) (Refused 16 k n) w b
   unfolding moves leftBytes returned usedOf variablesOf bufferOf
   spent h t kept =
       let e : max - n ≡ 0 = omega arith in

@@ -51,7 +51,7 @@ fits-by m t v b u allowance a (completed x k z rs) e p =
     (omega (arith, w .0, frame-length t rs), w .1)
 fits-by m t v b u allowance a (stopped x k s rs) e p = absurd (let z : _≡_ {A = ℕ} 0 1 = cc in omega arith)
 
-module _ (m : Fed) (t : ℕ) (v b : List ℕ) (u allowance : ℕ) {r : Outcome} {v′ b′ : List ℕ} (ran : Ran t v b u (ended m v b u allowance) r v′ b′) where
+module _ {m : Fed} {t : ℕ} {v b : List ℕ} {u allowance : ℕ} {r : Outcome} {v′ b′ : List ℕ} (ran : Ran m t v b u allowance r v′ b′) where
   pub steps-machine : stepsReported r ≡ stepsOf (ended m v b u allowance)
   steps-machine = steps-by t u r (ended m v b u allowance) (ran .answer)
 

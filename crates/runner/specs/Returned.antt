@@ -5,8 +5,10 @@ use mathlib.Core.List.{List}
 use mathlib.Core.Path.{_≡_}
 use Prim.Native.Nat.{ℕ}
 use Rattle.verifier.specs.Acceptance.{Accepted}
+use Rattle.machine.specs.Fed.{Fed}
 use Rattle.machine.specs.Machine.{Answer, no-value, top, top-and-beneath, Ended, completed, stopped}
-use Rattle.machine.specs.Run.{variablesOf, usedOf, bufferOf}
+use Rattle.machine.specs.Run.{ended, variablesOf, usedOf, bufferOf}
+use Rattle.machine.specs.Recorded.{Typed}
 use Rattle.runner.specs.declared.Value.{Value}
 use Rattle.runner.specs.declared.Value.the-variants.{Nothing, Top, TopAndBeneath}
 use Rattle.runner.specs.declared.Outcome.{Outcome}
@@ -38,11 +40,18 @@ abbrev pub stepsReported : Outcome → ℕ
 stepsReported (Completed a n u) = n
 stepsReported (Refused r k n) = n
 
--- the run ended as the machine: o is how the machine ended, v, b and u are given, v′ and b′ are what the run leaves
-pub record Ran (t : ℕ) (v b : List ℕ) (u : ℕ) (o : Ended) (r : Outcome) (v′ b′ : List ℕ) : Type 0 where
+-- the run ended as o, an end of the machine: v, b and u are given, v′ and b′ are what the run leaves
+pub record EndsAs (t : ℕ) (v b : List ℕ) (u : ℕ) (o : Ended) (r : Outcome) (v′ b′ : List ℕ) : Type 0 where
   pub answer : returnedBy r ≡ returned t u o
   pub variables : v′ ≡ variablesOf v o
   pub buffer : b′ ≡ bufferOf t b u o
+
+-- the run ended as document 01's machine that is fed the same; and what it is given is what the types of the code say
+pub record Ran (m : Fed) (t : ℕ) (v b : List ℕ) (u allowance : ℕ) (r : Outcome) (v′ b′ : List ℕ) : Type 0 where
+  pub answer : returnedBy r ≡ returned t u (ended m v b u allowance)
+  pub variables : v′ ≡ variablesOf v (ended m v b u allowance)
+  pub buffer : b′ ≡ bufferOf t b u (ended m v b u allowance)
+  pub typed : Typed m t v
 
 -- the expression is accepted, with some values
 pub record IsAccepted (e : List ℕ) : Type 0 where

@@ -10,8 +10,8 @@ ghost use Rattle.memory.specs.Spans.{spansRefusal};
 ghost use Rattle.frames.specs.Trailer.{trailerSize, encodeTrailer};
 ghost use Rattle.machine.specs.Fed.{fed, begin};
 ghost use Rattle.machine.specs.Machine.{answer, moves};
-ghost use Rattle.machine.specs.Run.{inputRefusal, ended, defaultAllowance};
-ghost use Rattle.runner.specs.Returned.{answerOf, IsAccepted, Ran};
+ghost use Rattle.machine.specs.Run.{inputRefusal, defaultAllowance};
+ghost use Rattle.runner.specs.Returned.{answerOf, IsAccepted, EndsAs, Ran};
 use isa::Stack;
 use verifier::Answer;
 
@@ -72,7 +72,7 @@ fn run_accepted<'a>(
     allowance: u64,
 ) -> Outcome
     requires { ⌜ (now rows ≡ table) × IsAccepted (now code) × (spansRefusal «image_first» (now image) «work_first» (now work) ≡ 0) × (used ≤ length (now buffer)) × (length (now buffer) ≤ 65536) ⌝ }
-    ensures { λ r. ⌜ Ran tracepoint (now (variables .entry)) (now (buffer .entry)) used (moves (fed (now (code .entry)) (now (registers .entry)) «image_first» (now (image .entry)) «work_first» (now (work .entry))) (length (now (buffer .entry)) - used) allowance (begin (now (variables .entry)))) r (now (variables .exit)) (now (buffer .exit)) ⌝ }
+    ensures { λ r. ⌜ EndsAs tracepoint (now (variables .entry)) (now (buffer .entry)) used (moves (fed (now (code .entry)) (now (registers .entry)) «image_first» (now (image .entry)) «work_first» (now (work .entry))) (length (now (buffer .entry)) - used) allowance (begin (now (variables .entry)))) r (now (variables .exit)) (now (buffer .exit)) ⌝ }
 {
     let mut own = *variables;
     let mut stack = Stack::empty();
@@ -160,8 +160,18 @@ pub fn run<'a>(
     tracepoint: u16,
     allowance: u64,
 ) -> Outcome
-    ensures { λ r. ⌜ Ran tracepoint (now (variables .entry)) (now (buffer .entry)) used (ended (fed (now (code .entry)) (now (registers .entry)) «image_first» (now (image .entry)) «work_first» (now (work .entry))) (now (variables .entry)) (now (buffer .entry)) used allowance) r (now (variables .exit)) (now (buffer .exit)) ⌝ }
+    ensures { λ r. ⌜ Ran (fed (now (code .entry)) (now (registers .entry)) «image_first» (now (image .entry)) «work_first» (now (work .entry))) tracepoint (now (variables .entry)) (now (buffer .entry)) used allowance r (now (variables .exit)) (now (buffer .exit)) ⌝ }
 {
+    machine::typed(
+        code,
+        registers,
+        image_first,
+        image,
+        work_first,
+        work,
+        variables,
+        tracepoint,
+    );
     match verifier::verify(code) {
         Answer::Refused(number, offset) => Outcome::Refused(number, offset, 0),
         Answer::Accepted(count, greatest, longest) => {
@@ -208,7 +218,7 @@ pub fn run_default<'a>(
     used: usize,
     tracepoint: u16,
 ) -> Outcome
-    ensures { λ r. ⌜ Ran tracepoint (now (variables .entry)) (now (buffer .entry)) used (ended (fed (now (code .entry)) (now (registers .entry)) «image_first» (now (image .entry)) «work_first» (now (work .entry))) (now (variables .entry)) (now (buffer .entry)) used defaultAllowance) r (now (variables .exit)) (now (buffer .exit)) ⌝ }
+    ensures { λ r. ⌜ Ran (fed (now (code .entry)) (now (registers .entry)) «image_first» (now (image .entry)) «work_first» (now (work .entry))) tracepoint (now (variables .entry)) (now (buffer .entry)) used defaultAllowance r (now (variables .exit)) (now (buffer .exit)) ⌝ }
 {
     run(
         code,

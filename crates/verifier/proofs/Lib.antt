@@ -9,5 +9,4 @@ pub mod Sound
 pub mod Complete
 pub mod Endings
 pub mod Meaning
-pub mod Numbers
 pub mod Promises

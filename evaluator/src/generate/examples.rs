@@ -60,28 +60,31 @@ const SHORT: [(&str, &str); 41] = [
     ("22 00 16 00 27", "refused 5 2"),
 ];
 
-/// Bytes in front, how often the bytes in the middle, bytes behind, outcome.
-const LONG: [(&str, usize, &str, &str); 9] = [
+/// Bytes in front, bytes in the middle, how often these, bytes behind, outcome.
+const LONG: [(&str, &str, usize, &str, &str); 12] = [
     // Document 01, "Examples": heights 64 and 65, lengths 1,024 and 1,025.
-    ("", 64, "27", "accepted 65 64 65"),
-    ("", 65, "27", "refused 10 128"),
-    ("22 00", 1_021, "27", "accepted 1023 1 1023"),
-    ("22 00", 1_022, "27", "refused 1 0"),
+    ("", "22 00", 64, "27", "accepted 65 64 65"),
+    ("", "22 00", 65, "27", "refused 10 128"),
+    ("22 00", "12", 1_021, "27", "accepted 1023 1 1023"),
+    ("22 00", "12", 1_022, "27", "refused 1 0"),
     // trace_quick on a full stack, where dup and const8 would not fit.
-    ("", 64, "0d 01 27", "accepted 66 64 66"),
-    ("", 63, "0d 01 27", "accepted 65 63 65"),
+    ("", "22 00", 64, "0d 01 27", "accepted 66 64 66"),
+    ("", "22 00", 63, "0d 01 27", "accepted 65 63 65"),
     // pick 63 on 64 cells, and pick 64.
-    ("", 64, "32 3f 27", "refused 10 128"),
-    ("", 64, "32 40 27", "refused 9 128"),
-    ("", 63, "32 3e 27", "accepted 65 64 65"),
+    ("", "22 00", 64, "32 3f 27", "refused 10 128"),
+    ("", "22 00", 64, "32 40 27", "refused 9 128"),
+    ("", "22 00", 63, "32 3e 27", "accepted 65 64 65"),
+    // "in that order": 10 before 11, where the last instruction leaves 65 cells.
+    ("", "22 00", 65, "", "refused 10 128"),
+    ("22 00", "28", 64, "", "refused 10 65"),
+    ("", "22 00", 64, "32 00", "refused 10 128"),
 ];
 
 /// Every example with its outcome.
 pub fn examples() -> Vec<(Vec<u8>, &'static str)> {
     let read = |text| hex::read(text).expect("the examples are hex");
     let short = SHORT.iter().map(|(bytes, line)| (read(bytes), *line));
-    let long = LONG.iter().map(|(front, times, behind, line)| {
-        let middle = if front.is_empty() { "22 00" } else { "12" };
+    let long = LONG.iter().map(|(front, middle, times, behind, line)| {
         (
             [read(front), read(middle).repeat(*times), read(behind)].concat(),
             *line,

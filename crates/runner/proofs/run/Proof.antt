@@ -11,6 +11,9 @@ use borrow.Author.Needs.{needs}
 use Rattle.runner.proofs.run.Statement.{statement}
 use Rattle.runner.proofs.run.Tie as tie
 
+typed-requires : tie.Need-typed-requires
+typed-requires c κs = search needs
+
 verify-requires : tie.Need-verify-requires
 verify-requires c κs = search needs
 
@@ -28,26 +31,37 @@ same-length c = search needs
 
 returns : tie.Need-returns
 unfolding inputRefusal
-returns c = let v = c .before .before .before .before .before .before in let s = v .before .before .before .before .before .before in enter-inputs (fed (now (s .args .code)) (now (s .args .registers)) (s .args .image-first) (now (s .args .image)) (s .args .work-first) (now (s .args .work))) (s .args .tracepoint) _ _ (s .args .used) (s .args .allowance) (sym (v .verify .ensures) ∙ ap verdictOf (c .before .before .before .before .count .given .1)) (c .before .inputs-refusal .ensures) (c .if1 .taken)
+returns c =
+    let v = c .before .before .before .before .before .before in
+    enter-inputs (v .before .typed .ensures) _ _ _ (sym (v .verify .ensures) ∙ ap verdictOf (c .before .before .before .before .count .given .1)) (c .before .inputs-refusal .ensures) (c .if1 .taken)
 
 run-accepted-requires : tie.Need-run-accepted-requires
 unfolding inputRefusal table rowsFrom classOf opcodes
-run-accepted-requires c κs = let v = c .before .before .before .before .before .before .before .before .before in let s = v .before .before .before .before .before .before in let z = inputs-fit (fed (now (s .args .code)) (now (s .args .registers)) (s .args .image-first) (now (s .args .image)) (s .args .work-first) (now (s .args .work))) (now (s .args .buffer)) (s .args .used) (sym (c .before .before .before .before .inputs-refusal .ensures) ∙ c .before .before .before .if1 .left) in (refl, is-accepted (sym (v .verify .ensures) ∙ ap verdictOf (c .before .before .before .before .before .before .before .count .given .1)), z .0, z .1, z .2)
+run-accepted-requires c κs =
+    let v = c .before .before .before .before .before .before .before .before .before in
+    let s = v .before .before .before .before .before .before .before .before in
+    let z = inputs-fit (fed (now (s .args .code)) (now (s .args .registers)) (s .args .image-first) (now (s .args .image)) (s .args .work-first) (now (s .args .work))) (now (s .args .buffer)) (s .args .used)
+    (sym (c .before .before .before .before .inputs-refusal .ensures) ∙ c .before .before .before .if1 .left) in
+    (refl, is-accepted (sym (v .verify .ensures) ∙ ap verdictOf (c .before .before .before .before .before .before .before .count .given .1)), z .0, z .1, z .2)
 
 returns-2 : tie.Need-returns-2
-returns-2 c = let v = c .before .before .before in let s = v .before .before .before .before .before .before in enter-refused (fed (now (s .args .code)) (now (s .args .registers)) (s .args .image-first) (now (s .args .image)) (s .args .work-first) (now (s .args .work))) (s .args .tracepoint) _ _ (s .args .used) (s .args .allowance) (sym (v .verify .ensures) ∙ ap verdictOf (c .before .number .given .1))
+returns-2 c = let v = c .before .before .before in enter-refused (v .before .typed .ensures) _ _ _ (sym (v .verify .ensures) ∙ ap verdictOf (c .before .number .given .1))
 
 same-length-2 : tie.Need-same-length-2
 same-length-2 c = search needs
 
 returns-3 : tie.Need-returns-3
 unfolding inputRefusal
-returns-3 c = let v = c .before .before .before .before .before .before .before .before .before .before .before .before in let s = v .before .before .before .before .before .before in enter-loop (fed (now (s .args .code)) (now (s .args .registers)) (s .args .image-first) (now (s .args .image)) (s .args .work-first) (now (s .args .work))) (s .args .tracepoint) _ _ (s .args .used) (s .args .allowance) (sym (v .verify .ensures) ∙ ap verdictOf (c .before .before .before .before .before .before .before .before .before .before .count .given .1)) (c .before .before .before .before .before .before .before .inputs-refusal .ensures) (c .before .before .before .before .before .before .if1 .left) (c .before .before .run-accepted .ensures)
+returns-3 c =
+    let i = c .before .before .before .before .before .before in
+    let v = i .before .before .before .before .before .before in
+    enter-loop (v .before .typed .ensures) _ _ _ (sym (v .verify .ensures) ∙ ap verdictOf (i .before .before .before .before .count .given .1)) (i .before .inputs-refusal .ensures) (i .if1 .left) (c .before .before .run-accepted .ensures)
 
 pub run-spec : {M : Type 1} → statement M
 run-spec =
     tie.close
     (tie.spec
+    typed-requires
     verify-requires
     enum-known-number
     enum-known-count
