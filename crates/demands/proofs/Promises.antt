@@ -9,6 +9,7 @@ use lib.ListN.{length, getD, take, drop}
 use lib.Dec.{T}
 use denote.Ref.{now}
 use Rattle.encoding.specs.Written.{writtenAt}
+use Rattle.encoding.specs.Ranges.{AllBytes, AllWords}
 use Rattle.memory.specs.Fetch.{fetchRefusal, fetched, InTarget, targetByte}
 use Rattle.frames.specs.Record.{Record, memory, encodeAll, AllWellFormed}
 use Rattle.frames.specs.Frame.{encodeFrame}
@@ -36,6 +37,8 @@ use Rattle.demands.proofs.Numbers as numbers
 use Rattle.demands.proofs.Leaving as leaving
 use Rattle.demands.proofs.Telling as telling
 use Rattle.demands.proofs.Reporting as reporting
+use Rattle.encoding.proofs.bytes_known as bytes-known
+use Rattle.encoding.proofs.words_known as words-known
 use Rattle.lilivrez_verifier.proofs.lilivrez_verify as lilivrez-verify
 use Rattle.lilivrez_agent.proofs.lilivrez_fetch as lilivrez-fetch
 use Rattle.lilivrez_agent.proofs.lilivrez_run as lilivrez-run
@@ -61,6 +64,14 @@ use Rattle.walker.proofs.step as walker-step
 -- function is called with, nothing is asked of the caller, it ends, and what stands here holds of its arguments in their order, its answer r, and its arguments as it
 -- leaves them. `now` is what a slice or a reference holds.
 module _ {M : Type 1} where
+  -- What is lent is what its type says: any slice has bytes, or words, throughout. So `AllBytes` and `AllWords`, which the crates' pages ask for, hold of any
+  -- arguments; of a run `ToldRun` and `Ran` say it.
+  pub lent-bytes : Answers M bytes-known.ended bytes-known.Symbol.routine (λ _ (bytes, _) _ _. AllBytes (now bytes))
+  lent-bytes = bytes-known.Met.met
+
+  pub lent-words : Answers M words-known.ended words-known.Symbol.routine (λ _ (words, _) _ _. AllWords (now words))
+  lent-words = words-known.Met.met
+
   -- the functions that console and unit link: what is returned, and what is stored in `out`
   pub lilivrez-verify-answers : Exports M lilivrez-verify.ended lilivrez-verify.Symbol.routine
       (λ _ (expression, _) r _. r ≡ verifier.numberOf (verdict (now expression)))

@@ -7,7 +7,6 @@ use lib.ListN.{length, take, drop}
 use Rattle.encoding.specs.LittleEndian.{littleEndian, littleBytes}
 use Rattle.encoding.specs.Written.{writtenAt}
 use Rattle.encoding.specs.Ranges.{AllBytes}
-use Rattle.encoding.proofs.bytes_known as bytes-known
 use Rattle.frames.specs.Record.{Record, encode, encodeAll, size, WellFormed, AllWellFormed, Decoded, found, broken, decodeMemory, decodeVariable, decode}
 use Rattle.frames.specs.Division.{Division, records, brokenAt, after, afterAll, divideAtMost, divide}
 use Rattle.frames.specs.Trailer.{trailerSize, encodeTrailer, trailer, decodeTrailer}
@@ -23,9 +22,7 @@ use Rattle.frames.proofs.Closing as closing
 use Rattle.frames.proofs.Fitting as fitting
 use Rattle.frames.proofs.Reading as reading
 
--- ---- the laws below that ask for bytes hold of any slice that a caller lends: of all its elements `bytes_known` ensures it
-pub lent-bytes : {M : Type 1} → bytes-known.Statement.statement M
-lent-bytes = bytes-known.Met.met
+-- The laws below that ask for bytes (`AllBytes`) hold of any slice that is lent: `lent-bytes` on the page of the demands.
 
 -- ---- a record and its bytes
 -- 11 + the number of bytes, or 13
