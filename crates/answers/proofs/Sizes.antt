@@ -18,11 +18,11 @@ use Rattle.report.proofs.Promises.{text-start}
 use Rattle.isa.specs.Classes.{classOf, kind, kind-unknown, kind-unsupported}
 use Rattle.isa.specs.Decode.{next}
 use Rattle.isa.specs.Starts.{startsFrom}
-use Rattle.isa.specs.Walk.{Walk, stop, step}
+use Rattle.isa.specs.Walk.{Walk}
 use Rattle.isa.proofs.Promises.{by-starts, from-end, from-next, start-in, walk-last}
 use Rattle.verifier.specs.Acceptance.{Accepted, Shows, heights-differ, too-few, too-many, runs-on, Justified, of-size, of-pass1, of-pass2, of-pass3}
 use Rattle.verifier.specs.Verdict.{Verdict, accepted, refused, verdict}
-use Rattle.verifier.proofs.Promises.{means, accepted-means, refused-number, begins, ready, goes-on, goes-forward}
+use Rattle.verifier.proofs.Promises.{means, accepted-means, refused-number, ready, longest-length}
 use Rattle.heights.specs.Arrivals.{unreached, ArrivalsBy}
 use Rattle.listing.specs.Names.{nameOf}
 use Rattle.listing.specs.Numbers.{decimal}
@@ -145,19 +145,10 @@ starts-length e =
     (λ i h p. omega (arith, p, ap length (from-next e i h)))
 
 module _ (e : List ℕ) {n g l : ℕ} (a : Accepted e n g l) where
-  walk-length : {v w : List ℕ} {k h j u : ℕ} → Walk e 0 0 v k h → Walk e k h w j u → length w + k ≤ j + 1
-  walk-length x (stop s) = omega arith
-  walk-length x (step s t y) = omega (arith, goes-forward e a x t, walk-length (goes-on e a x t) y)
-
-  longest-length : l ≤ length e
-  longest-length =
-      let t = a .longest .shown .to-end in
-      omega (arith, a .longest .number, walk-length (begins e a) (t .2), start-in e (t .0) (walk-last (t .2)))
-
   numbers-low : (n ≤ 1024) × (g ≤ 64) × (l ≤ 1024)
   numbers-low =
       let r = a .height .reached in
-      (omega (arith, a .count, starts-length e 0, a .acceptable .sized .short), omega (arith, r .4, ready e a (r .3) .room), omega (arith, longest-length, a .acceptable .sized .short))
+      (omega (arith, a .count, starts-length e 0, a .acceptable .sized .short), omega (arith, r .4, ready e a (r .3) .room), omega (arith, longest-length e a, a .acceptable .sized .short))
 
 -- the offset of a refusal
 module _ (e : List ℕ) {k : ℕ} where

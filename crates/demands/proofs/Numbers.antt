@@ -1,13 +1,13 @@
 -- Each entry gives exactly the numbers that the table of refusals has for it.
 use mathlib.Core.Bool.{Bool, true, false, cond, not, _&&_, _||_}
 use mathlib.Core.List.{List, [], _∷_, _++_, map}
-use mathlib.Core.Logic.{_⊎_, _↔_, inl, inr, ⊎-elim}
+use mathlib.Core.Logic.{_⊎_, _↔_, _≢_, inl, inr, ⊎-elim}
 use mathlib.Core.Path.{_≡_, refl, sym}
 use Prim.Native.Nat.{ℕ, zero, suc, _≤_, _<_}
 use native.Mathlib.Omega.{arith}
 use native.Mathlib.Decide.{ℕ-discrete}
 use lib.Dec.{T, ltb, eqb}
-use borrow.Author.Tests.{eqb-true}
+use borrow.Author.Tests.{eqb-true, ne-eqb}
 use Rattle.encoding.specs.Tried.{tried}
 use Rattle.encoding.specs.BigEndian.{bigEndian}
 use Rattle.encoding.specs.LittleEndian.{littleEndian, littleBytes}
@@ -29,14 +29,15 @@ use Rattle.machine.specs.Words.{binaryWord, zeroDivisor}
 use Rattle.machine.specs.Recording.{fitting, rangeMade}
 use Rattle.machine.specs.Meaning.{binaryDone, refDone, regDone, endDone, done, stackAfter, variablesAfter, offsetAfter}
 use Rattle.machine.specs.Machine.{moves}
-use Rattle.machine.specs.Run.{inputRefusal, ended, numberOf as runNumber}
+use Rattle.machine.specs.Run.{inputRefusal, ended, defaultAllowance, numberOf as runNumber}
+use Rattle.machine.proofs.Promises as machine
 use Rattle.reader.specs.Located.{frameBefore, frameBack, located, walked}
 use Rattle.reader.specs.Read.{reading, counting}
 use Rattle.lilivrez_verifier.specs.Told.{numberOf as verifyNumber}
 use Rattle.lilivrez_verifier.proofs.Promises as verifier
 use Rattle.lilivrez_agent.specs.Frames.{among, readNumber, countNumber, placeNumber}
 use Rattle.lilivrez_agent.proofs.Promises as agent
-use Rattle.demands.specs.Refusals.{Entry, verify, fetch, run, read, count, locate, walk, table, numbersOf, Inputs, number, typed, Gives}
+use Rattle.demands.specs.Refusals.{Entry, verify, fetch, run, run-default, read, count, locate, walk, table, numbersOf, Inputs, number, typed, Gives}
 use Rattle.demands.specs.Attained.{examples}
 
 -- ---- none else
@@ -62,12 +63,20 @@ tried-in : (p : ℕ → Bool) (ts : List (Bool × ℕ)) → T (allOf p ts) → T
 tried-in p [] h = h
 tried-in p (t ∷ ts) h = first-of p (t .0) (t .1) (tried ts) (and-left (p (t .1)) (allOf p ts) h) (tried-in p ts (and-right (p (t .1)) (allOf p ts) h))
 
+not-that : (b : Bool) (r n : ℕ) → r ≢ n → T (eqb r n || b) → T b
+not-that b r n h t = rw (ne-eqb r n h) at t
+
 listed : (x : Entry) (i : Inputs x) → T (among (0 ∷ numbersOf x) (number x i))
 unfolding table fetchRefusal
 listed verify e = up-to (among (0 ∷ numbersOf verify)) 12 (number verify e) tt (omega (arith, verifier.number-most e))
 listed fetch i =
     tried-in (among (0 ∷ numbersOf fetch)) (spanTests (i .0) (i .1) (i .2) (i .3) ++ ((ltb 0 (i .5) && not (readable (i .0) (i .1) (i .2) (i .3) (i .4) (i .5)), 19) ∷ [])) tt
 listed run i = up-to (among (0 ∷ numbersOf run)) 22 (number run i) tt (omega (arith, agent.number-most (i .0) (i .1) (i .2) (i .3) (i .4)))
+listed run-default i =
+    not-that (among (0 ∷ numbersOf run-default) (number run-default i)) (number run-default i) 16
+    (machine.bytes-enough (i .0) (i .1) (i .2) (i .3) defaultAllowance (omega arith))
+    (up-to (λ (r : ℕ). eqb r 16 || among (0 ∷ numbersOf run-default) r) 22 (number run-default i) tt
+    (omega (arith, agent.number-most (i .0) (i .1) (i .2) (i .3) defaultAllowance)))
 listed read i = agent.read-number (i .0) (i .1) (i .2) (i .3)
 listed count i = agent.count-number (i .0) (i .1) (i .2)
 listed locate i = agent.locate-number (i .0) (i .1) (i .2)
@@ -96,6 +105,7 @@ unfolding examples
 examples-typed verify = tt
 examples-typed fetch = tt
 examples-typed run = tt
+examples-typed run-default = tt
 examples-typed read = tt
 examples-typed count = tt
 examples-typed locate = tt
@@ -106,6 +116,7 @@ unfolding examples table verifyNumber runNumber ended inputRefusal endsPast shar
 examples-give verify = refl
 examples-give fetch = refl
 examples-give run = refl
+examples-give run-default = refl
 examples-give read = refl
 examples-give count = refl
 examples-give locate = refl

@@ -5,6 +5,7 @@ use mathlib.Core.List.{List, _∷_, _++_}
 use mathlib.Core.Logic.{_↔_, _≢_}
 use mathlib.Core.Path.{_≡_, sym, ap, _∙_}
 use Prim.Native.Nat.{ℕ, suc, _+_, _≤_, _<_}
+use native.Mathlib.Omega.{arith}
 use lib.ListN.{length, getD, take, drop}
 use lib.Dec.{T}
 use denote.Ref.{now}
@@ -258,6 +259,10 @@ module _ {m : Fed} {t : ℕ} {v b : List ℕ} {u allowance number : ℕ} {values
 
   pub allowance-enough : {n g l : ℕ} → verdict (m .expression) ≡ accepted n g l → l ≤ allowance → number ≢ 16
   allowance-enough p h = rw (tells .number-of) (machine.allowance-enough m v b u allowance p h)
+
+  -- Document 01: "An entry without an allowance uses 1,024." That is always enough.
+  pub default-enough : allowance ≡ defaultAllowance → number ≢ 16
+  default-enough p = rw (tells .number-of) (machine.bytes-enough m v b u allowance (omega arith))
 
   -- "For every run on any bytes, completed or refused, the steps that the runner reports are exactly as many as document 01's machine completes when it is fed the same"
   pub steps-machine : stepsIn values ≡ stepsOf (ended m v b u allowance)

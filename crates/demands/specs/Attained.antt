@@ -3,7 +3,7 @@ use mathlib.Core.List.{List, [], _∷_, map, _++_}
 use Prim.Native.Nat.{ℕ, zero, suc, _^_, _-_}
 use lib.ListN.{replicate}
 use Rattle.machine.specs.Fed.{Fed, fed}
-use Rattle.demands.specs.Refusals.{Entry, verify, fetch, run, read, count, locate, walk, Inputs}
+use Rattle.demands.specs.Refusals.{Entry, verify, fetch, run, run-default, read, count, locate, walk, Inputs}
 
 -- the bytes l, n times
 abbrev times : ℕ → List ℕ → List ℕ
@@ -36,29 +36,39 @@ fetches =
     ∷ (0, [], 0, [], 4096, 1)
     ∷ []
 
--- a run on no registers and no memory, with a buffer of 8 bytes, an allowance of 9, and no variable set
+-- a run on no registers and no memory, with a buffer of 8 bytes, and no variable set
 abbrev unset : List ℕ
 unset = replicate 64 0
 
-abbrev plain : List ℕ → Inputs run
-plain e = (fed e [] 0 [] 0 [], unset, replicate 8 0, 0, 9)
+abbrev on : Fed → Inputs run-default
+on m = (m, unset, replicate 8 0, 0)
 
--- 0 to 11 by the same expressions; then what comes of the inputs, and of the instructions
-abbrev runs : List (Inputs run)
-runs =
+abbrev plain : List ℕ → Inputs run-default
+plain e = on (fed e [] 0 [] 0 [])
+
+-- 0 to 11 by the same expressions, and 12 to 15
+abbrev early : List (Inputs run-default)
+early =
     map plain expressions ++ (
-    (fed (0x27 ∷ []) [] (2 ^ 64 - 1) (0x41 ∷ 0x42 ∷ []) 0 [], unset, replicate 8 0, 0, 9)
-    ∷ (fed (0x27 ∷ []) [] 4096 (0x41 ∷ 0x42 ∷ []) 4097 (0x42 ∷ []), unset, replicate 8 0, 0, 9)
-    ∷ (fed (0x27 ∷ []) (replicate 257 0) 0 [] 0 [], unset, replicate 8 0, 0, 9)
-    ∷ (fed (0x27 ∷ []) [] 0 [] 0 [], unset, replicate 8 0, 9, 9)
-    ∷ (fed (0x27 ∷ []) [] 0 [] 0 [], unset, replicate 8 0, 0, 0)
-    ∷ plain (0x22 ∷ 0x01 ∷ 0x22 ∷ 0x00 ∷ 0x05 ∷ 0x27 ∷ [])
+    on (fed (0x27 ∷ []) [] (2 ^ 64 - 1) (0x41 ∷ 0x42 ∷ []) 0 [])
+    ∷ on (fed (0x27 ∷ []) [] 4096 (0x41 ∷ 0x42 ∷ []) 4097 (0x42 ∷ []))
+    ∷ on (fed (0x27 ∷ []) (replicate 257 0) 0 [] 0 [])
+    ∷ (fed (0x27 ∷ []) [] 0 [] 0 [], unset, replicate 8 0, 9)
+    ∷ []
+    )
+
+-- 17 to 21
+abbrev late : List (Inputs run-default)
+late =
+    plain (0x22 ∷ 0x01 ∷ 0x22 ∷ 0x00 ∷ 0x05 ∷ 0x27 ∷ [])
     ∷ plain (0x26 ∷ 0x00 ∷ 0x00 ∷ 0x27 ∷ [])
     ∷ plain (0x22 ∷ 0x00 ∷ 0x17 ∷ 0x27 ∷ [])
     ∷ plain (0x22 ∷ 0x00 ∷ 0x24 ∷ 0x00 ∷ 0x01 ∷ 0x00 ∷ 0x00 ∷ 0x0c ∷ 0x27 ∷ [])
     ∷ plain (0x2e ∷ 0x00 ∷ 0x00 ∷ 0x27 ∷ [])
     ∷ []
-    )
+
+abbrev allowed : ℕ → Inputs run-default → Inputs run
+allowed n i = (i .0, i .1, i .2, i .3, n)
 
 -- a frame with no records, and one whose only record is broken
 abbrev empty : List ℕ
@@ -75,7 +85,8 @@ recorded = 0x56 ∷ replicate 12 0 ++ (0x46 ∷ 0x00 ∷ 0x07 ∷ 0x00 ∷ 0x0d 
 unfoldable pub examples : (x : Entry) → List (Inputs x)
 examples verify = expressions
 examples fetch = fetches
-examples run = runs
+examples run = map (allowed 9) early ++ (allowed 0 (plain (0x27 ∷ [])) ∷ map (allowed 9) late)
+examples run-default = early ++ late
 examples read = (recorded, 21, 0, 0) ∷ ([], 1, 0, 0) ∷ (0x00 ∷ [], 1, 0, 0) ∷ (broken, 9, 0, 0) ∷ ([], 0, 0, 0) ∷ (empty, 8, 0, 0) ∷ []
 examples count = (empty, 8, 0) ∷ ([], 1, 0) ∷ (0x00 ∷ [], 1, 0) ∷ (broken, 9, 0) ∷ ([], 0, 0) ∷ []
 examples locate = (empty, 8, 0) ∷ ([], 1, 0) ∷ (0x00 ∷ [], 1, 0) ∷ ([], 0, 0) ∷ []

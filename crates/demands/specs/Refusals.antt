@@ -7,7 +7,7 @@ use lib.ListN.{length}
 use lib.Dec.{T, eqb, ltb}
 use Rattle.memory.specs.Fetch.{fetchRefusal}
 use Rattle.machine.specs.Fed.{Fed}
-use Rattle.machine.specs.Run.{ended}
+use Rattle.machine.specs.Run.{ended, defaultAllowance}
 use Rattle.machine.specs.Run as machine
 use Rattle.verifier.specs.Verdict.{verdict}
 use Rattle.reader.specs.Located.{located, walked}
@@ -19,6 +19,7 @@ pub data Entry : Type 0 where
   verify : Entry
   fetch : Entry
   run : Entry
+  run-default : Entry
   read : Entry
   count : Entry
   locate : Entry
@@ -27,29 +28,29 @@ pub data Entry : Type 0 where
 unfoldable pub table : List (ℕ × List Entry)
 table =
     -- "0 bytes, or more than 1,024"
-    (1, verify ∷ run ∷ [])
+    (1, verify ∷ run ∷ run-default ∷ [])
     -- "opcode unknown; unsupported"
-    ∷ (2, verify ∷ run ∷ []) ∷ (3, verify ∷ run ∷ [])
+    ∷ (2, verify ∷ run ∷ run-default ∷ []) ∷ (3, verify ∷ run ∷ run-default ∷ [])
     -- "operands cut short; ext 0 or variable above 63"
-    ∷ (4, verify ∷ run ∷ []) ∷ (5, verify ∷ run ∷ [])
+    ∷ (4, verify ∷ run ∷ run-default ∷ []) ∷ (5, verify ∷ run ∷ run-default ∷ [])
     -- "jump not to a start; jump not forward"
-    ∷ (6, verify ∷ run ∷ []) ∷ (7, verify ∷ run ∷ [])
+    ∷ (6, verify ∷ run ∷ run-default ∷ []) ∷ (7, verify ∷ run ∷ run-default ∷ [])
     -- "heights differ; too few cells; too many; runs off"
-    ∷ (8, verify ∷ run ∷ []) ∷ (9, verify ∷ run ∷ []) ∷ (10, verify ∷ run ∷ []) ∷ (11, verify ∷ run ∷ [])
+    ∷ (8, verify ∷ run ∷ run-default ∷ []) ∷ (9, verify ∷ run ∷ run-default ∷ []) ∷ (10, verify ∷ run ∷ run-default ∷ []) ∷ (11, verify ∷ run ∷ run-default ∷ [])
     -- "first address + length exceeds 2^64; spans share an address"
-    ∷ (12, fetch ∷ run ∷ []) ∷ (13, fetch ∷ run ∷ [])
+    ∷ (12, fetch ∷ run ∷ run-default ∷ []) ∷ (13, fetch ∷ run ∷ run-default ∷ [])
     -- "over 256 registers; buffer over 65,536 or used beyond its length"
-    ∷ (14, run ∷ []) ∷ (15, run ∷ read ∷ count ∷ locate ∷ walk ∷ [])
-    -- "allowance spent"
+    ∷ (14, run ∷ run-default ∷ []) ∷ (15, run ∷ run-default ∷ read ∷ count ∷ locate ∷ walk ∷ [])
+    -- "allowance spent"; the default of 1,024 never is
     ∷ (16, run ∷ [])
     -- "divisor zero; register number not lent"
-    ∷ (17, run ∷ []) ∷ (18, run ∷ [])
+    ∷ (17, run ∷ run-default ∷ []) ∷ (18, run ∷ run-default ∷ [])
     -- "range not readable"
-    ∷ (19, fetch ∷ run ∷ [])
+    ∷ (19, fetch ∷ run ∷ run-default ∷ [])
     -- "record size above 65,535"
-    ∷ (20, run ∷ [])
+    ∷ (20, run ∷ run-default ∷ [])
     -- "record, or trailer at end, longer than the free bytes"
-    ∷ (21, run ∷ [])
+    ∷ (21, run ∷ run-default ∷ [])
     -- "reader: trailer broken; record broken"
     ∷ (22, read ∷ count ∷ locate ∷ walk ∷ []) ∷ (23, read ∷ count ∷ [])
     -- "no such frame; no such record"
@@ -61,10 +62,11 @@ abbrev pub place : Entry → ℕ
 place verify = 0
 place fetch = 1
 place run = 2
-place read = 3
-place count = 4
-place locate = 5
-place walk = 6
+place run-default = 3
+place read = 4
+place count = 5
+place locate = 6
+place walk = 7
 
 abbrev pub numbersIn : Entry → List (ℕ × List Entry) → List ℕ
 numbersIn x [] = []
@@ -80,6 +82,7 @@ abbrev pub Inputs : Entry → Type 0
 Inputs verify = List ℕ
 Inputs fetch = ℕ × List ℕ × ℕ × List ℕ × ℕ × ℕ
 Inputs run = Fed × List ℕ × List ℕ × ℕ × ℕ
+Inputs run-default = Fed × List ℕ × List ℕ × ℕ
 Inputs read = List ℕ × ℕ × ℕ × ℕ
 Inputs count = List ℕ × ℕ × ℕ
 Inputs locate = List ℕ × ℕ × ℕ
@@ -90,6 +93,7 @@ abbrev pub number : (x : Entry) → Inputs x → ℕ
 number verify e = verifier.numberOf (verdict e)
 number fetch i = fetchRefusal (i .0) (i .1) (i .2) (i .3) (i .4) (i .5)
 number run i = machine.numberOf (ended (i .0) (i .1) (i .2) (i .3) (i .4))
+number run-default i = machine.numberOf (ended (i .0) (i .1) (i .2) (i .3) defaultAllowance)
 number read i = readNumber (reading (i .0) (i .1) (i .2) (i .3))
 number count i = countNumber (counting (i .0) (i .1) (i .2))
 number locate i = placeNumber (located (i .0) (i .1) (i .2))
@@ -100,13 +104,16 @@ abbrev allBelow : ℕ → List ℕ → Bool
 allBelow b [] = true
 allBelow b (x ∷ xs) = ltb x b && allBelow b xs
 
+abbrev typedRun : Fed → List ℕ → List ℕ → Bool
+typedRun m v b =
+    allBelow 256 (m .expression) && allBelow (2 ^ 64) (m .registers) && allBelow 256 (m .image) && allBelow 256 (m .work)
+    && allBelow (2 ^ 64) (m .image-first ∷ m .work-first ∷ []) && allBelow (2 ^ 64) v && eqb (length v) 64 && allBelow 256 b
+
 abbrev pub typed : (x : Entry) → Inputs x → Bool
 typed verify e = allBelow 256 e
 typed fetch i = allBelow (2 ^ 64) (i .0 ∷ i .2 ∷ i .4 ∷ i .5 ∷ []) && allBelow 256 (i .1) && allBelow 256 (i .3)
-typed run i =
-    allBelow 256 (i .0 .expression) && allBelow (2 ^ 64) (i .0 .registers) && allBelow 256 (i .0 .image) && allBelow 256 (i .0 .work)
-    && allBelow (2 ^ 64) (i .1) && eqb (length (i .1)) 64 && allBelow 256 (i .2)
-    && allBelow (2 ^ 64) (i .0 .image-first ∷ i .0 .work-first ∷ i .3 ∷ i .4 ∷ [])
+typed run i = typedRun (i .0) (i .1) (i .2) && allBelow (2 ^ 64) (i .3 ∷ i .4 ∷ [])
+typed run-default i = typedRun (i .0) (i .1) (i .2) && allBelow (2 ^ 64) (i .3 ∷ [])
 typed read i = allBelow 256 (i .0) && allBelow (2 ^ 64) (i .1 ∷ i .2 ∷ i .3 ∷ [])
 typed count i = allBelow 256 (i .0) && allBelow (2 ^ 64) (i .1 ∷ i .2 ∷ [])
 typed locate i = allBelow 256 (i .0) && allBelow (2 ^ 64) (i .1 ∷ i .2 ∷ [])

@@ -22,11 +22,11 @@ use runner::Value;
 // Where the `size` bytes at `address` are. Returns the number of the refusal, or 0. Stores the number of the span that lends them (0 none, 1 program image,
 // 2 working memory) and the place of the first of them in that span.
 #[no_mangle]
-pub extern "C" fn lilivrez_fetch(
+pub extern "C" fn lilivrez_fetch<'a>(
     image_first: u64,
-    image: &[u8],
+    image: &'a [u8],
     work_first: u64,
-    work: &[u8],
+    work: &'a [u8],
     address: u64,
     size: u64,
     out: &mut [u64; 2],

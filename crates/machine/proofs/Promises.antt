@@ -43,6 +43,10 @@ module _ (m : Fed) (v buffer : List ℕ) (used allowance : ℕ) where
   pub allowance-enough : {n g l : ℕ} → verdict (m .expression) ≡ accepted n g l → l ≤ allowance → numberOf (ended m v buffer used allowance) ≢ 16
   allowance-enough = steps.allowance-enough m v buffer used allowance
 
+  -- and neither is one of as many steps as an expression may have bytes, as the default is
+  pub bytes-enough : 1024 ≤ allowance → numberOf (ended m v buffer used allowance) ≢ 16
+  bytes-enough = steps.bytes-enough m v buffer used allowance
+
   -- ---- the number of a refusal is one of 1 to 21
   pub stopped-number : {r k n : ℕ} {rs : List Record} → ended m v buffer used allowance ≡ stopped r k n rs → (1 ≤ r) × (r ≤ 21)
   stopped-number = steps.stopped-number m v buffer used allowance

@@ -14,7 +14,7 @@ use Rattle.isa.specs.Decode.{kindAt}
 use Rattle.frames.specs.Record.{Record, encodeAll}
 use Rattle.verifier.specs.Verdict.{Verdict, accepted, refused, verdict}
 use Rattle.verifier.specs.Acceptance.{Accepted}
-use Rattle.verifier.proofs.Promises.{accepted-means, refused-number}
+use Rattle.verifier.proofs.Promises.{accepted-means, refused-number, longest-length}
 use Rattle.machine.specs.Fed.{Fed, State, begin}
 use Rattle.machine.specs.Meaning.{Done, leaves, faults, done}
 use Rattle.machine.specs.Machine.{Ended, completed, stopped, answer, moved, onward, moves}
@@ -131,6 +131,17 @@ module _ (m : Fed) (v buffer : List ℕ) (used allowance : ℕ) where
         rw p (by-test (λ o. numberOf o ≢ 16) (eqb (inputRefusal m buffer used) 0) _ _
         (λ _. let a = accepted-means (m .expression) p in moves-enough m (length buffer - used) a allowance (begin v) (walk-begins a) (omega arith))
         (λ _. omega (arith, refusal-low)))
+
+  -- so is one of as many steps as an expression may have bytes
+  enough-by : (x : Verdict) → verdict (m .expression) ≡ x → 1024 ≤ allowance → numberOf (ended m v buffer used allowance) ≢ 16
+  unfolding numberOf
+  enough-by (accepted n g l) p h =
+      let a = accepted-means (m .expression) p in
+      allowance-enough p (omega (arith, longest-length (m .expression) a, a .acceptable .sized .short))
+  enough-by (refused r k) p h = rw (refused-early p) (omega (arith, refused-number (m .expression) p))
+
+  pub bytes-enough : 1024 ≤ allowance → numberOf (ended m v buffer used allowance) ≢ 16
+  bytes-enough = enough-by (verdict (m .expression)) refl
 
   after-numbered : (x : Verdict) → verdict (m .expression) ≡ x → NumberedEnd (afterVerdict m v buffer used allowance x)
   after-numbered (accepted n g l) p =

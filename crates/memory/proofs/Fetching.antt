@@ -11,7 +11,7 @@ use lib.Seq.{take-all, getD-take, getD-drop, ext-getD}
 use borrow.Author.Tests.{eq-eqb, ne-eqb, lt-ltb, le-ltb, le-leb, lt-leb, leb-true}
 use Rattle.encoding.proofs.Promises.{cases, no-true}
 use Rattle.memory.specs.Spans.{InSpan, spanTests, spansRefusal}
-use Rattle.memory.specs.Fetch.{holdsRange, readable, fetchRefusal, whichever, fetched, targetByte, restOf, Within, Readable, PartOf}
+use Rattle.memory.specs.Fetch.{holdsRange, readable, fetchRefusal, whichever, fetched, InTarget, targetByte, restOf, Within, Readable, PartOf}
 use Rattle.memory.proofs.Choosing.{cond-elim, zero-cases, tried-first, tried-then}
 use Rattle.memory.proofs.Testing.{holds-yes, holds-not, holds-true, holds-false, wrapped-in, wrapped-out}
 use Rattle.memory.proofs.Spanning.{spans-pass, spans-most, spans-0}
@@ -46,8 +46,11 @@ length-part k i l h = simp (length-take, length-drop) (omega arith)
 rest-whole : (i : ℕ) (l : List ℕ) → take (length l - i) (drop i l) ≡ drop i l
 rest-whole i l = take-all (length l - i) (drop i l) (omega (arith, length-drop i l))
 
-part-byte : (k i j : ℕ) (l : List ℕ) → j < k → getD (take k (drop i l)) j 0 ≡ getD l (i + j) 0
-part-byte k i j l h = rw (getD-take, getD-drop)
+-- a byte of a part of the span of the bytes l at f
+part-byte : (f : ℕ) (l : List ℕ) (a k : ℕ) (part : List ℕ) → PartOf f l a k part → (i : ℕ) → i < k → getD part i 0 ≡ getD l (a + i - f) 0
+part-byte f l a k part w i h =
+    let e : a - f + i ≡ a + i - f = omega (arith, w .within 0 (omega arith)) in
+    rw (w .same, getD-take k (drop (a - f) l) i 0 h, getD-drop, e)
 
 module _ (f : ℕ) (image : List ℕ) (g : ℕ) (work : List ℕ) where
   -- whichever span holds the range
@@ -69,18 +72,18 @@ module _ (f : ℕ) (image : List ℕ) (g : ℕ) (work : List ℕ) where
     unfolding fetchRefusal
     fetch-then = tried-then (spanTests f image g work) ((ltb 0 k && not (readable f image g work a k), 19) ∷ []) (spans-pass f image g work fine)
 
-    pub fetch-no-bytes : k ≡ 0 → 0 ≡ fetchRefusal f image g work a k
+    fetch-no-bytes : k ≡ 0 → 0 ≡ fetchRefusal f image g work a k
     fetch-no-bytes h = sym (fetch-then ∙ rw (le-ltb 0 k (omega arith)))
 
-    pub fetch-in-image : holdsRange f (length image) a k ≡ true → 0 ≡ fetchRefusal f image g work a k
+    fetch-in-image : holdsRange f (length image) a k ≡ true → 0 ≡ fetchRefusal f image g work a k
     unfolding readable
     fetch-in-image h = sym (fetch-then ∙ rw h (and-false (ltb 0 k)))
 
-    pub fetch-in-work : holdsRange f (length image) a k ≡ false → holdsRange g (length work) a k ≡ true → 0 ≡ fetchRefusal f image g work a k
+    fetch-in-work : holdsRange f (length image) a k ≡ false → holdsRange g (length work) a k ≡ true → 0 ≡ fetchRefusal f image g work a k
     unfolding readable
     fetch-in-work h s = sym (fetch-then ∙ rw (h, s) (and-false (ltb 0 k)))
 
-    pub fetch-unreadable : k ≢ 0 → holdsRange f (length image) a k ≡ false → holdsRange g (length work) a k ≡ false → 19 ≡ fetchRefusal f image g work a k
+    fetch-unreadable : k ≢ 0 → holdsRange f (length image) a k ≡ false → holdsRange g (length work) a k ≡ false → 19 ≡ fetchRefusal f image g work a k
     unfolding readable
     fetch-unreadable z h s = sym (fetch-then ∙ rw (lt-ltb 0 k (omega arith), h, s))
 
@@ -89,7 +92,7 @@ module _ (f : ℕ) (image : List ℕ) (g : ℕ) (work : List ℕ) where
     unread-none z h s = zero-cases k (λ e. e) (λ n. absurd (omega (arith, z, fetch-unreadable n h s)))
 
   module _ (a k : ℕ) where
-    fetch-fine : fetchRefusal f image g work a k ≡ 0 → spansRefusal f image g work ≡ 0
+    pub fetch-fine : fetchRefusal f image g work a k ≡ 0 → spansRefusal f image g work ≡ 0
     fetch-fine z = zero-cases (spansRefusal f image g work) (λ e. e) (λ n. absurd (n (fetch-first n a k ∙ z)))
 
     -- the spans by which span holds the range
@@ -135,16 +138,24 @@ module _ (f : ℕ) (image : List ℕ) (g : ℕ) (work : List ℕ) where
     unfolding fetched
     fetched-refused n = rw (ne-eqb (fetchRefusal f image g work a k) 0 n)
 
-    pub fetched-image : fetchRefusal f image g work a k ≡ 0 → holdsRange f (length image) a k ≡ true → take k (drop (a - f) image) ≡ fetched f image g work a k
+    fetched-image : fetchRefusal f image g work a k ≡ 0 → holdsRange f (length image) a k ≡ true → take k (drop (a - f) image) ≡ fetched f image g work a k
     fetched-image z h = sym (lent z ∙ rw h)
 
-    pub fetched-work : fetchRefusal f image g work a k ≡ 0 → holdsRange f (length image) a k ≡ false → holdsRange g (length work) a k ≡ true → take k (drop (a - g) work) ≡ fetched f image g work a k
+    fetched-work : fetchRefusal f image g work a k ≡ 0 → holdsRange f (length image) a k ≡ false → holdsRange g (length work) a k ≡ true → take k (drop (a - g) work) ≡ fetched f image g work a k
     fetched-work z h s = sym (lent z ∙ rw (h, s))
 
-    pub fetched-none : fetchRefusal f image g work a k ≡ 0 → holdsRange f (length image) a k ≡ false → holdsRange g (length work) a k ≡ false → [] ≡ fetched f image g work a k
+    fetched-none : fetchRefusal f image g work a k ≡ 0 → holdsRange f (length image) a k ≡ false → holdsRange g (length work) a k ≡ false → [] ≡ fetched f image g work a k
     fetched-none z h s = sym (lent z ∙ rw (h, s))
 
   -- ---- the target's bytes
+  pub target-holds : (x : ℕ) → (readable f image g work x 1 ≡ true) ↔ InTarget f image g work x
+  target-holds x =
+      let r = readable-means x 1 (omega arith) in (
+        λ p. ⊎-elim (λ w. inl (let y = w 0 (omega arith) in (omega (arith, y .0), omega (arith, y .1))))
+            (λ w. inr (let y = w 0 (omega arith) in (omega (arith, y .0), omega (arith, y .1)))) (r .0 p),
+        λ p. r .1 (⊎-elim (λ w. inl (λ i h. (omega (arith, w .0), omega (arith, w .1)))) (λ w. inr (λ i h. (omega (arith, w .0), omega (arith, w .1)))) p),
+      )
+
   pub target-image : (x : ℕ) → InSpan f (length image) x → targetByte f image g work x ≡ getD image (x - f) 0
   unfolding targetByte
   target-image x i = rw (holds-address f (length image) x i)
@@ -155,14 +166,20 @@ module _ (f : ℕ) (image : List ℕ) (g : ℕ) (work : List ℕ) where
     target-work x i =
         rw (misses-address f (length image) x (λ j. spans-0 f image g work .0 fine .apart x j i), holds-address g (length work) x i)
 
+    pub target-part : (a k : ℕ) (part : List ℕ) → PartOf f image a k part ⊎ PartOf g work a k part
+        → (i : ℕ) → i < k → InTarget f image g work (a + i) × (getD part i 0 ≡ targetByte f image g work (a + i))
+    target-part a k part p i h =
+        ⊎-elim (λ w. let x = w .within i (omega arith) in (inl x, part-byte f image a k part w i h ∙ sym (target-image (a + i) x)))
+        (λ w. let x = w .within i (omega arith) in (inr x, part-byte g work a k part w i h ∙ sym (target-work (a + i) x))) p
+
   module _ (a k : ℕ) (z : fetchRefusal f image g work a k ≡ 0) where
     fine-spans : spansRefusal f image g work ≡ 0
     fine-spans = fetch-fine a k z
 
     pub fetched-part : 1 ≤ k → PartOf f image a k (fetched f image g work a k) ⊎ PartOf g work a k (fetched f image g work a k)
     fetched-part s =
-        one-of a k (λ h. inl (record { within = within-holds f (length image) a k h; same = sym (fetched-image a k z h) }))
-        (λ h t. inr (record { within = within-holds g (length work) a k t; same = sym (fetched-work a k z h t) }))
+        one-of a k (λ h. inl (record { within = λ i s. within-holds f (length image) a k h i (omega arith); same = sym (fetched-image a k z h) }))
+        (λ h t. inr (record { within = λ i s. within-holds g (length work) a k t i (omega arith); same = sym (fetched-work a k z h t) }))
         (λ h t. absurd (omega (arith, unread-none fine-spans a k z h t)))
 
     pub fetched-length : length (fetched f image g work a k) ≡ k
@@ -171,17 +188,8 @@ module _ (f : ℕ) (image : List ℕ) (g : ℕ) (work : List ℕ) where
         (λ h t. rw (← (fetched-work a k z h t)) (length-part k (a - g) work (omega (arith, holds-true g (length work) a k t))))
         (λ h t. rw (← (fetched-none a k z h t)) (sym (unread-none fine-spans a k z h t)))
 
-    pub fetched-byte : (i : ℕ) → i < k → getD (fetched f image g work a k) i 0 ≡ targetByte f image g work (a + i)
-    fetched-byte i s =
-        one-of a k (λ h.
-        let w = within-holds f (length image) a k h i s in
-        let e : a - f + i ≡ a + i - f = omega (arith, holds-true f (length image) a k h) in
-        rw (← (fetched-image a k z h), target-image (a + i) w, ← e) (part-byte k (a - f) i image s))
-        (λ h t.
-        let w = within-holds g (length work) a k t i s in
-        let e : a - g + i ≡ a + i - g = omega (arith, holds-true g (length work) a k t) in
-        rw (← (fetched-work a k z h t), target-work fine-spans (a + i) w, ← e) (part-byte k (a - g) i work s))
-        (λ h t. absurd (omega (arith, unread-none fine-spans a k z h t)))
+    pub fetched-byte : (i : ℕ) → i < k → InTarget f image g work (a + i) × (getD (fetched f image g work a k) i 0 ≡ targetByte f image g work (a + i))
+    fetched-byte i s = target-part fine-spans a k (fetched f image g work a k) (fetched-part (omega arith)) i s
 
   -- ---- the bytes from an address on
   module _ (a : ℕ) where
@@ -265,7 +273,23 @@ module _ (f : ℕ) (image : List ℕ) (g : ℕ) (work : List ℕ) where
         (λ h t _ r. sym (fetched-work a k z h t) ∙ rw r)
         (λ h t u. absurd (omega arith)))
 
-    pub rest-byte : (i : ℕ) → i < length (restOf f image g work a) → getD (restOf f image g work a) i 0 ≡ targetByte f image g work (a + i)
+    pub rest-byte : (i : ℕ) → i < length (restOf f image g work a)
+        → InTarget f image g work (a + i) × (getD (restOf f image g work a) i 0 ≡ targetByte f image g work (a + i))
     rest-byte i s =
         let z : fetchRefusal f image g work a (i + 1) ≡ 0 = rest-refusal (i + 1) ∙ rw (le-leb (i + 1) (length (restOf f image g work a)) (omega arith)) in
-        sym (getD-take (i + 1) (restOf f image g work a) i 0 (omega arith)) ∙ rw (rest-fetched (i + 1) (omega arith)) at (fetched-byte a (i + 1) z i (omega arith))
+        let y = fetched-byte a (i + 1) z i (omega arith) in
+        (y .0, sym (getD-take (i + 1) (restOf f image g work a) i 0 (omega arith)) ∙ rw (rest-fetched (i + 1) (omega arith)) at (y .1))
+
+    -- ---- the answers of `fetch_refusal` and `fetch`, of the bytes r that `rest` lends
+    module _ {r : List ℕ} (lent : r ≡ restOf f image g work a) {k : ℕ} where
+      pub refusal-short : length r < k → 19 ≡ fetchRefusal f image g work a k
+      refusal-short h = sym (rest-refusal k ∙ rw (← lent, lt-leb k (length r) h))
+
+      pub refusal-none : k ≤ length r → 0 ≡ fetchRefusal f image g work a k
+      refusal-none h = sym (rest-refusal k ∙ rw (← lent, le-leb k (length r) h))
+
+      pub fetch-fits : fetchRefusal f image g work a k ≡ 0 → k ≤ length r
+      fetch-fits z = cases (length r) k (λ h. absurd (omega (arith, z, refusal-short h))) (λ h. h)
+
+      pub fetch-lends : k ≤ length r → take k r ≡ fetched f image g work a k
+      fetch-lends h = rw lent (sym (rest-fetched k (rw lent at h)))

@@ -8,7 +8,7 @@ use Prim.Native.Nat.{ℕ, _+_, _-_, _≤_, _<_, _^_}
 use lib.Dec.{leb}
 use lib.ListN.{length, take, getD}
 use Rattle.memory.specs.Spans.{InSpan, shareAddress, spansRefusal, FineSpans}
-use Rattle.memory.specs.Fetch.{holdsRange, readable, fetchRefusal, fetched, targetByte, restOf, Readable, PartOf}
+use Rattle.memory.specs.Fetch.{holdsRange, readable, fetchRefusal, fetched, InTarget, targetByte, restOf, Readable, PartOf}
 use Rattle.memory.specs.FirstZero.{Sought, up-to-zero, all-of-size, cut-short, searched, FirstZero, NoneInSize, EndedBefore, Says}
 use Rattle.memory.proofs.Testing as testing
 use Rattle.memory.proofs.Spanning as spanning
@@ -41,12 +41,21 @@ module _ (f : ℕ) (image : List ℕ) (g : ℕ) (work : List ℕ) where
   pub spans-0 : (spansRefusal f image g work ≡ 0) ↔ FineSpans f image g work
   spans-0 = spanning.spans-0 f image g work
 
-  -- ---- the target's byte at an address is that of the span which holds it
+  -- ---- a span holds an address exactly if the byte there can be read
+  pub target-holds : (x : ℕ) → (readable f image g work x 1 ≡ true) ↔ InTarget f image g work x
+  target-holds = fetching.target-holds f image g work
+
+  -- the target's byte at an address is that of the span which holds it
   pub target-image : (x : ℕ) → InSpan f (length image) x → targetByte f image g work x ≡ getD image (x - f) 0
   target-image = fetching.target-image f image g work
 
   pub target-work : spansRefusal f image g work ≡ 0 → (x : ℕ) → InSpan g (length work) x → targetByte f image g work x ≡ getD work (x - g) 0
   target-work = fetching.target-work f image g work
+
+  -- each byte of a part of one span is the target's byte at its address, which a span holds
+  pub target-part : spansRefusal f image g work ≡ 0 → (a k : ℕ) (part : List ℕ) → PartOf f image a k part ⊎ PartOf g work a k part
+      → (i : ℕ) → i < k → InTarget f image g work (a + i) × (getD part i 0 ≡ targetByte f image g work (a + i))
+  target-part = fetching.target-part f image g work
 
   module _ (a k : ℕ) where
     -- ---- the refusal of a fetch
@@ -75,8 +84,9 @@ module _ (f : ℕ) (image : List ℕ) (g : ℕ) (work : List ℕ) where
     pub fetched-length : fetchRefusal f image g work a k ≡ 0 → length (fetched f image g work a k) ≡ k
     fetched-length = fetching.fetched-length f image g work a k
 
-    -- each is the target's byte at its address
-    pub fetched-byte : fetchRefusal f image g work a k ≡ 0 → (i : ℕ) → i < k → getD (fetched f image g work a k) i 0 ≡ targetByte f image g work (a + i)
+    -- each is the target's byte at its address, which a span holds
+    pub fetched-byte : fetchRefusal f image g work a k ≡ 0 → (i : ℕ) → i < k
+        → InTarget f image g work (a + i) × (getD (fetched f image g work a k) i 0 ≡ targetByte f image g work (a + i))
     fetched-byte = fetching.fetched-byte f image g work a k
 
     -- and all of them are bytes of one span, which holds every one of the addresses
@@ -100,8 +110,9 @@ module _ (f : ℕ) (image : List ℕ) (g : ℕ) (work : List ℕ) where
     pub rest-fetched : (k : ℕ) → k ≤ length (restOf f image g work a) → fetched f image g work a k ≡ take k (restOf f image g work a)
     rest-fetched = fetching.rest-fetched f image g work fine a
 
-    -- each is the target's byte at its address
-    pub rest-byte : (i : ℕ) → i < length (restOf f image g work a) → getD (restOf f image g work a) i 0 ≡ targetByte f image g work (a + i)
+    -- each is the target's byte at its address, which a span holds
+    pub rest-byte : (i : ℕ) → i < length (restOf f image g work a)
+        → InTarget f image g work (a + i) × (getD (restOf f image g work a) i 0 ≡ targetByte f image g work (a + i))
     rest-byte = fetching.rest-byte f image g work fine a
 
 -- ---- the search for the first zero byte among the first `size` bytes of l

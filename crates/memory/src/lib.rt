@@ -68,67 +68,8 @@ pub fn holds_range(first: u64, len: u64, address: u64, size: u64) -> bool
     size <= len - (address - first)
 }
 
-// Why `fetch` lends nothing: 12, 13 or 19, or 0 where it is not refused.
-pub fn fetch_refusal(
-    image_first: u64,
-    image: &[u8],
-    work_first: u64,
-    work: &[u8],
-    address: u64,
-    size: u64,
-) -> u8
-    ensures { λ r. ⌜ r ≡ fetchRefusal «image_first» (now (image .entry)) «work_first» (now (work .entry)) address size ⌝ }
-{
-    let refusal = spans_refusal(image_first, image, work_first, work);
-    if refusal != 0 {
-        return refusal;
-    }
-    if size == 0 {
-        return 0;
-    }
-    if holds_range(image_first, image.len() as u64, address, size) {
-        return 0;
-    }
-    if holds_range(work_first, work.len() as u64, address, size) {
-        return 0;
-    }
-    19
-}
-
-// The `size` bytes at `address`, of a span that holds them all.
-fn part_of<'a>(first: u64, bytes: &'a [u8], address: u64, size: u64) -> &'a [u8]
-    requires { ⌜ holdsRange first (length (now bytes)) address size ≡ true ⌝ }
-    ensures { λ r. ⌜ now r ≡ take size (drop (address - first) (now (bytes .entry))) ⌝ }
-{
-    let at = (address - first) as usize;
-    &bytes[at..at + size as usize]
-}
-
-// The `size` bytes at `address`, in whichever span holds them all; an empty part where that is refused.
-pub fn fetch<'a>(
-    image_first: u64,
-    image: &'a [u8],
-    work_first: u64,
-    work: &'a [u8],
-    address: u64,
-    size: u64,
-) -> &'a [u8]
-    ensures { λ r. ⌜ now r ≡ fetched «image_first» (now (image .entry)) «work_first» (now (work .entry)) address size ⌝ }
-{
-    if fetch_refusal(image_first, image, work_first, work, address, size) != 0 {
-        return &image[..0];
-    }
-    if holds_range(image_first, image.len() as u64, address, size) {
-        return part_of(image_first, image, address, size);
-    }
-    if holds_range(work_first, work.len() as u64, address, size) {
-        return part_of(work_first, work, address, size);
-    }
-    &image[..0]
-}
-
-// The bytes from `address` to the end of the span that holds it; none where no span does. No span ends past 2^64, so that one comparison, of the
-// difference modulo 2^64, tells whether a span holds the address.
+// The bytes from `address` to the end of the span that holds it; none where no span does: all that `fetch` and the instructions lend. No span ends past
+// 2^64, so that one comparison, of the difference modulo 2^64, tells whether a span holds the address.
 pub fn rest<'a>(
     image_first: u64,
     image: &'a [u8],
@@ -148,6 +89,48 @@ pub fn rest<'a>(
         return &work[in_work as usize..];
     }
     &image[..0]
+}
+
+// Why `fetch` lends nothing: 12, 13 or 19, or 0 where it is not refused.
+pub fn fetch_refusal<'a>(
+    image_first: u64,
+    image: &'a [u8],
+    work_first: u64,
+    work: &'a [u8],
+    address: u64,
+    size: u64,
+) -> u8
+    ensures { λ r. ⌜ r ≡ fetchRefusal «image_first» (now (image .entry)) «work_first» (now (work .entry)) address size ⌝ }
+{
+    let refusal = spans_refusal(image_first, image, work_first, work);
+    if refusal != 0 {
+        return refusal;
+    }
+    let rest = rest(image_first, image, work_first, work, address);
+    if (rest.len() as u64) < size {
+        return 19;
+    }
+    0
+}
+
+// The `size` bytes at `address`, in whichever span holds them all; an empty part where that is refused.
+pub fn fetch<'a>(
+    image_first: u64,
+    image: &'a [u8],
+    work_first: u64,
+    work: &'a [u8],
+    address: u64,
+    size: u64,
+) -> &'a [u8]
+    ensures { λ r. ⌜ now r ≡ fetched «image_first» (now (image .entry)) «work_first» (now (work .entry)) address size ⌝ }
+{
+    let refusal = fetch_refusal(image_first, image, work_first, work, address, size);
+    if refusal != 0 {
+        return &image[..0];
+    }
+    let rest = rest(image_first, image, work_first, work, address);
+    let count = size as usize;
+    &rest[..count]
 }
 
 // How a search for the first zero byte went.

@@ -1,6 +1,7 @@
 use mathlib.Core.Path.{sym, _∙_}
+use lib.Seq.{length-take-le}
 use borrow.Author.Needs.{needs}
-use Rattle.memory.proofs.Fetching.{fetched-refused, fetched-image, fetched-work, fetched-none}
+use Rattle.memory.proofs.Fetching.{fetched-refused, fetch-fine, fetch-fits, fetch-lends}
 use Rattle.memory.proofs.fetch.Statement.{statement}
 use Rattle.memory.proofs.fetch.Tie as tie
 
@@ -11,31 +12,27 @@ slice-aggregate-result : tie.Need-slice-aggregate-result
 slice-aggregate-result c = search needs
 
 returns : tie.Need-returns
-returns c = fetched-refused _ _ _ _ _ _ (λ e. c .before .if1 .taken (c .before .before .fetch-refusal .ensures ∙ e))
+returns c =
+    let i = c .before in
+    fetched-refused _ _ _ _ _ _ (λ e. i .if1 .taken (i .before .fetch-refusal .ensures ∙ e))
 
-holds-range-requires : tie.Need-holds-range-requires
-holds-range-requires c κs = search needs
-
-part-of-requires : tie.Need-part-of-requires
-part-of-requires c κs = sym (c .before .holds-range .ensures) ∙ c .if2 .taken
-
-returns-2 : tie.Need-returns-2
-returns-2 c = c .part-of .ensures ∙ fetched-image _ _ _ _ _ _ (sym (c .before .before .before .before .fetch-refusal .ensures) ∙ c .before .before .before .if1 .left) (sym (c .before .before .holds-range .ensures) ∙ c .before .if2 .taken)
-
-holds-range-requires-2 : tie.Need-holds-range-requires-2
-holds-range-requires-2 c κs = search needs
-
-part-of-requires-2 : tie.Need-part-of-requires-2
-part-of-requires-2 c κs = sym (c .before .holds-range2 .ensures) ∙ c .if3 .taken
-
-returns-3 : tie.Need-returns-3
-returns-3 c = c .part-of2 .ensures ∙ fetched-work _ _ _ _ _ _ (sym (c .before .before .before .before .before .before .fetch-refusal .ensures) ∙ c .before .before .before .before .before .if1 .left) (sym (c .before .before .before .before .holds-range .ensures) ∙ c .before .before .before .if2 .left) (sym (c .before .before .holds-range2 .ensures) ∙ c .before .if3 .taken)
+rest-requires : tie.Need-rest-requires
+rest-requires c κs = fetch-fine _ _ _ _ _ _ (sym (c .before .fetch-refusal .ensures) ∙ c .if1 .left)
 
 slice-aggregate-result-2 : tie.Need-slice-aggregate-result-2
-slice-aggregate-result-2 c = search needs
+slice-aggregate-result-2 c =
+    let r = c .before in
+    let i = r .before in
+    let z = sym (i .before .fetch-refusal .ensures) ∙ i .if1 .left in
+    sym (length-take-le _ _ (fetch-fits _ _ _ _ (fetch-fine _ _ _ _ _ _ z) _ (r .rest .ensures) z))
 
-returns-4 : tie.Need-returns-4
-returns-4 c = fetched-none _ _ _ _ _ _ (sym (c .before .before .before .before .before .before .fetch-refusal .ensures) ∙ c .before .before .before .before .before .if1 .left) (sym (c .before .before .before .before .holds-range .ensures) ∙ c .before .before .before .if2 .left) (sym (c .before .before .holds-range2 .ensures) ∙ c .before .if3 .left)
+returns-2 : tie.Need-returns-2
+returns-2 c =
+    let r = c .before in
+    let i = r .before in
+    let z = sym (i .before .fetch-refusal .ensures) ∙ i .if1 .left in
+    let fine = fetch-fine _ _ _ _ _ _ z in
+    fetch-lends _ _ _ _ fine _ (r .rest .ensures) (fetch-fits _ _ _ _ fine _ (r .rest .ensures) z)
 
 pub fetch-spec : {M : Type 1} → statement M
 fetch-spec =
@@ -44,11 +41,6 @@ fetch-spec =
     fetch-refusal-requires
     slice-aggregate-result
     returns
-    holds-range-requires
-    part-of-requires
-    returns-2
-    holds-range-requires-2
-    part-of-requires-2
-    returns-3
+    rest-requires
     slice-aggregate-result-2
-    returns-4)
+    returns-2)
