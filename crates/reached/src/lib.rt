@@ -20,7 +20,7 @@ pub enum First {
 }
 
 // The instruction at `at`, which a walk has reached with that height.
-pub fn instruction_at(rows: &[[u8; 4]; 53], e: &[u8], at: usize, height: usize) -> Instruction
+fn instruction_at(rows: &[[u8; 4]; 53], e: &[u8], at: usize, height: usize) -> Instruction
     requires { ⌜ now rows ≡ table ⌝ ∗ ⌜ Reached (now e) at height ⌝ }
     ensures { λ r. ⌜ IsInstruction (now (e .entry)) at height r ⌝ }
 {
