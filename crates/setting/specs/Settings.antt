@@ -12,7 +12,7 @@ use Rattle.setting.specs.declared.Buffer.{Buffer}
 use Rattle.setting.specs.declared.Allowance.{Allowance}
 use Rattle.setting.specs.declared.Setting.{Setting}
 
--- the word with which a line begins has the number k
+-- a line whose first word has the number k begins with w
 abbrev pub begins : String → ℕ → Bool
 begins w k = eqb k (keywordOf (bytesOf w))
 

@@ -1,7 +1,8 @@
 // What the lines of a scenario have set so far, and the values of its registers and variables.
 ghost use mathlib.Core.Path.{_≡_};
 ghost use lib.ListN.{set, take};
-ghost use Rattle.setting.specs.Settings.{begun, withStop, withDefault, withUsed, withSpan, lentWith, withNumber, registersAfter, variableSet, variablesAfter};
+ghost use Rattle.setting.specs.Settings.{begun, withStop, withDefault, withUsed, withSpan, lentWith, withNumber};
+ghost use Rattle.setting.specs.Settings.{registersAfter, variableSet, variablesAfter};
 use scenario::ALLOWANCE;
 use scenario::BUFFER;
 use scenario::IMAGE;

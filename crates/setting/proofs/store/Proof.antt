@@ -12,7 +12,9 @@ same-length : tie.Need-same-length
 same-length c = search needs
 
 returns : tie.Need-returns
-returns c = (c .before .before .set-register .ensures ∙ registers-set _ _ _ _ (c .before .before .before .before .if1 .taken), variables-same _ _ _ _ (omega (arith, c .before .before .before .before .if1 .taken)))
+returns c =
+    let r = c .before .before in let t = r .before .before .if1 .taken in
+    (r .set-register .ensures ∙ registers-set _ _ _ _ t, variables-same _ _ _ _ (omega (arith, t)))
 
 set-variable-requires : tie.Need-set-variable-requires
 set-variable-requires c κs = search needs

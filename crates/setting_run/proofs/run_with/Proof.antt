@@ -22,7 +22,10 @@ same-length : tie.Need-same-length
 same-length c = search needs
 
 returns : tie.Need-returns
-returns c = ran-with (c .before .before .before .before .before .before .before .before .before .first-registers .ensures) (c .before .before .before .before .before .before .before .before .first-bytes .ensures) (c .before .before .before .before .before .before .before .first-bytes2 .ensures) (default-allowed _ (c .before .before .before .before .before .if1 .taken)) (c .before .before .run-default .ensures)
+returns c =
+    let r = c .before .before in let b = r .before .before .before .before .before in
+    ran-with (b .before .before .first-registers .ensures) (b .before .first-bytes .ensures) (b .first-bytes2 .ensures)
+    (default-allowed _ (r .before .before .before .if1 .taken)) (r .run-default .ensures)
 
 run-requires : tie.Need-run-requires
 run-requires c κs = search needs
@@ -31,7 +34,10 @@ same-length-2 : tie.Need-same-length-2
 same-length-2 c = search needs
 
 returns-2 : tie.Need-returns-2
-returns-2 c = ran-with (c .before .before .before .before .before .before .before .before .before .first-registers .ensures) (c .before .before .before .before .before .before .before .before .first-bytes .ensures) (c .before .before .before .before .before .before .before .first-bytes2 .ensures) (steps-allowed _ (c .before .before .before .before .before .if1 .left)) (c .before .before .run .ensures)
+returns-2 c =
+    let r = c .before .before in let b = r .before .before .before .before .before in
+    ran-with (b .before .before .first-registers .ensures) (b .before .first-bytes .ensures) (b .first-bytes2 .ensures)
+    (steps-allowed _ (r .before .before .before .if1 .left)) (r .run .ensures)
 
 pub run-with-spec : {M : Type 1} → statement M
 run-with-spec =

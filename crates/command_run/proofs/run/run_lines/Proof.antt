@@ -73,10 +73,16 @@ take-line-requires : tie.Need-take-line-requires Inv-loop μ-loop
 take-line-requires c κs = search needs
 
 add-number : tie.Need-add-number Inv-loop μ-loop
-add-number c = record { fits = omega (arith, c .before .before .before .before .before .before .before .before .before .before .before .before .before .before .before .before .before .before .before .before .loop-test .taken) }
+add-number c =
+    let b = c .before .before .before .before .before .before .before .before .before .before in
+    let t = b .before .before .before .before .before .before .before .before .before .before .loop-test .taken in
+    record { fits = omega (arith, t) }
 
 loop-less : tie.Need-loop-less Inv-loop μ-loop
-loop-less c = omega (arith, c .before .before .before .before .before .before .before .before .before .before .before .before .before .before .before .before .before .before .before .before .loop-test .taken)
+loop-less c =
+    let b = c .before .before .before .before .before .before .before .before .before .before in
+    let t = b .before .before .before .before .before .before .before .before .before .before .loop-test .taken in
+    omega (arith, t)
 
 loop-again : tie.Need-loop-again Inv-loop μ-loop
 loop-again c = search needs
