@@ -1,5 +1,9 @@
 // A trace buffer, shown: a record, a frame, or all frames from the newest on.
+ghost use mathlib.Core.Path.{_≡_};
 ghost use Prim.Native.Nat.{_≤_};
+ghost use Rattle.reader.specs.Located.{located};
+ghost use Rattle.reader.specs.Read.{counting};
+ghost use Rattle.command_frames.specs.Refusals.{recordsIn, refusalIn, walkRefusalIn, brokenIn};
 use output::print;
 use reader::Count;
 use reader::Place;
@@ -44,7 +48,10 @@ fn print_frame_line(buffer: &[u8], used: usize, number: u64) {
     print(&line[..n]);
 }
 
-pub fn records_of(buffer: &[u8], used: usize, number: u64) -> usize {
+// How many records a frame has; 0 where it is refused.
+pub fn records_of(buffer: &[u8], used: usize, number: u64) -> usize
+    ensures { λ r. ⌜ r ≡ recordsIn (counting (now (buffer .entry)) used number) ⌝ }
+{
     match reader::count_records(buffer, used, number) {
         Count::Records(tracepoint, start, length, records) => records,
         Count::NoCount(refusal, offset) => 0,
@@ -65,7 +72,9 @@ fn print_completed(number: u64, word: &[u8], refused: u64) {
 
 // ---- all frames
 // The refusal of the walk to a frame; 0 where there is none.
-fn walk_refusal(buffer: &[u8], used: usize, number: u64) -> u8 {
+fn walk_refusal(buffer: &[u8], used: usize, number: u64) -> u8
+    ensures { λ r. ⌜ r ≡ walkRefusalIn (located (now (buffer .entry)) used number) ⌝ }
+{
     match reader::locate(buffer, used, number) {
         Place::Frame(tracepoint, start, length) => 0,
         Place::NoFrame(refusal, offset) => refusal,
@@ -73,7 +82,9 @@ fn walk_refusal(buffer: &[u8], used: usize, number: u64) -> u8 {
 }
 
 // The refusal of a frame; 0 where there is none.
-pub fn frame_refusal(buffer: &[u8], used: usize, number: u64) -> u8 {
+pub fn frame_refusal(buffer: &[u8], used: usize, number: u64) -> u8
+    ensures { λ r. ⌜ r ≡ refusalIn (counting (now (buffer .entry)) used number) ⌝ }
+{
     match reader::count_records(buffer, used, number) {
         Count::Records(tracepoint, start, length, records) => 0,
         Count::NoCount(refusal, offset) => refusal,
@@ -82,7 +93,7 @@ pub fn frame_refusal(buffer: &[u8], used: usize, number: u64) -> u8 {
 
 // 1 where the frame is refused for its records, else 0.
 fn refused_in(buffer: &[u8], used: usize, number: u64) -> u64
-    ensures { λ r. ⌜ r ≤ 1 ⌝ }
+    ensures { λ r. ⌜ (r ≡ brokenIn (counting (now (buffer .entry)) used number)) × (r ≤ 1) ⌝ }
 {
     if frame_refusal(buffer, used, number) == 23 {
         return 1;

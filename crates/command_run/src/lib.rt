@@ -1,4 +1,3 @@
 // The command `run` of the tool: a scenario is read, its expressions are run, and what comes of them is printed.
 mod outcome;
 pub mod run;
-mod setting;

@@ -2,13 +2,6 @@
 use crate::outcome::print_buffer;
 use crate::outcome::print_changes;
 use crate::outcome::print_outcome;
-use crate::setting::Setting;
-use crate::setting::start;
-use crate::setting::stopped;
-use crate::setting::with_default_allowance;
-use crate::setting::with_number;
-use crate::setting::with_span;
-use crate::setting::with_used;
 use command_frames::show::print_frame;
 use files::Loaded;
 use files::load;
@@ -25,9 +18,17 @@ use scenario::IMAGE;
 use scenario::Item;
 use scenario::LOAD;
 use scenario::MEMORY;
-use scenario::REGISTER;
 use scenario::SAVE;
-use scenario::VARIABLE;
+use setting::Setting;
+use setting::first_bytes;
+use setting::start;
+use setting::stopped;
+use setting::store;
+use setting::with_default_allowance;
+use setting::with_number;
+use setting::with_span;
+use setting::with_used;
+use setting_run::run_with;
 use std::num::wrapping_add_u64;
 
 // So many bytes were taken, or an error was told.
@@ -60,18 +61,6 @@ fn part<'a>(line: &'a [u8], start: usize, end: usize) -> &'a [u8] {
         return &line[0..0];
     }
     &line[start..end]
-}
-
-// The first so many of the bytes or registers, which are never fewer.
-fn first_bytes<'a>(bytes: &'a [u8], len: usize) -> &'a [u8] {
-    part(bytes, 0, len)
-}
-
-fn first_registers<'a>(registers: &'a [u64], len: usize) -> &'a [u64] {
-    if registers.len() < len {
-        return registers;
-    }
-    &registers[0..len]
 }
 
 // The bytes that a part of a line spells, put at the start of `bytes`.
@@ -132,45 +121,6 @@ fn span_set(got: Got, keyword: u8, first: u64, setting: Setting) -> Setting {
     }
 }
 
-fn run_given<'a>(
-    code: &[u8],
-    setting: Setting,
-    registers: &[u64],
-    image: &'a [u8],
-    memory: &'a [u8],
-    variables: &mut [u64; 64],
-    buffer: &mut [u8],
-) -> Outcome {
-    let tracepoint = (setting.tracepoint % 65536) as u16;
-    if setting.is_default {
-        return runner::run_default(
-            code,
-            registers,
-            setting.image_first,
-            image,
-            setting.memory_first,
-            memory,
-            variables,
-            buffer,
-            setting.used,
-            tracepoint,
-        );
-    }
-    runner::run(
-        code,
-        registers,
-        setting.image_first,
-        image,
-        setting.memory_first,
-        memory,
-        variables,
-        buffer,
-        setting.used,
-        tracepoint,
-        setting.allowance,
-    )
-}
-
 fn run_code<'a>(
     code: &[u8],
     setting: Setting,
@@ -181,7 +131,7 @@ fn run_code<'a>(
     buffer: &mut [u8],
 ) -> Setting {
     let before = *variables;
-    let outcome = run_given(code, setting, registers, image, memory, variables, buffer);
+    let outcome = run_with(code, setting, registers, image, memory, variables, buffer);
     print_outcome(code, outcome);
     match outcome {
         Outcome::Completed(value, steps, used) => {
@@ -191,7 +141,7 @@ fn run_code<'a>(
             with_used(setting, used)
         }
         Outcome::Refused(number, offset, steps) => {
-            print_buffer(setting.used, buffer.len());
+            print_buffer(setting.buffer.used, buffer.len());
             setting
         }
     }
@@ -212,7 +162,7 @@ fn run_line<'a>(
     buffer: &mut [u8],
 ) -> Setting {
     let mut code = io::large_buffer();
-    let size = setting.size;
+    let size = setting.buffer.size;
     if buffer.len() < size {
         return stopped(setting);
     }
@@ -221,9 +171,9 @@ fn run_line<'a>(
         Got::Bytes(n) => run_code(
             first_bytes(&code, n),
             setting,
-            first_registers(registers, setting.registers),
-            first_bytes(image, setting.image_len),
-            first_bytes(memory, setting.memory_len),
+            registers,
+            image,
+            memory,
             variables,
             &mut buffer[0..size],
         ),
@@ -278,7 +228,7 @@ fn load_buffer(
     setting: Setting,
     buffer: &mut [u8],
 ) -> Setting {
-    let size = setting.size;
+    let size = setting.buffer.size;
     if buffer.len() < size {
         return stopped(setting);
     }
@@ -297,7 +247,10 @@ fn save_buffer(
     setting: Setting,
     buffer: &[u8],
 ) -> Setting {
-    if save(part(line, start, end), first_bytes(buffer, setting.used)) {
+    if save(
+        part(line, start, end),
+        first_bytes(buffer, setting.buffer.used),
+    ) {
         return setting;
     }
     print_wrong(name, number, start, b"the file cannot be written");
@@ -330,29 +283,6 @@ fn take_file(
     }
     let got = take_bytes(name, number, line, start, end, memory);
     span_set(got, keyword, first, setting)
-}
-
-// Numbers beyond the end are not set; the scenario's limits leave none.
-fn set_register(registers: &mut [u64], number: usize, value: u64) {
-    if number < registers.len() {
-        registers[number] = value;
-    }
-}
-
-fn set_variable(variables: &mut [u64; 64], number: usize, value: u64) {
-    if number < 64 {
-        variables[number] = value;
-    }
-}
-
-fn store(keyword: u8, number: u64, value: u64, registers: &mut [u64], variables: &mut [u64; 64]) {
-    if keyword == REGISTER {
-        set_register(registers, number as usize, value);
-        return;
-    }
-    if keyword == VARIABLE {
-        set_variable(variables, number as usize, value);
-    }
 }
 
 // What the line says is done. The answer is what is set then.

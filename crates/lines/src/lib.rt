@@ -1,5 +1,7 @@
 // Lines of standard input, or of an open file, one at a time. The caller lends a buffer for what is read
 // and one for the line, and hands each answer back with the next call.
+ghost use mathlib.Core.Bool.{false};
+ghost use mathlib.Core.Path.{_≡_};
 use libc::STDIN_FILENO;
 
 // The line's length: one more than its buffer's where it is longer, whatever follows. What is read
@@ -15,7 +17,9 @@ pub struct Line {
 }
 
 // Before the first line of an open file nothing is read.
-pub fn start_of(fd: i32) -> Line {
+pub fn start_of(fd: i32) -> Line
+    ensures { λ r. ⌜ (r .fd ≡ fd) × (r .len ≡ 0) × (r .from ≡ 0) × (r .to ≡ 0) × (r .«is_line» ≡ false) × (r .«is_failed» ≡ false) ⌝ }
+{
     Line {
         fd,
         len: 0,
@@ -26,7 +30,9 @@ pub fn start_of(fd: i32) -> Line {
     }
 }
 
-pub fn start() -> Line {
+pub fn start() -> Line
+    ensures { λ r. ⌜ (r .len ≡ 0) × (r .from ≡ 0) × (r .to ≡ 0) × (r .«is_line» ≡ false) × (r .«is_failed» ≡ false) ⌝ }
+{
     start_of(STDIN_FILENO)
 }
 

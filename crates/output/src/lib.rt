@@ -1,4 +1,6 @@
 // What the commands print: answers on standard output; an error on standard error, in one line.
+ghost use mathlib.Core.Path.{_≡_};
+ghost use Rattle.output.specs.Options.{isOption};
 use libc::STDERR_FILENO;
 use libc::STDOUT_FILENO;
 
@@ -52,7 +54,9 @@ pub fn print_error_at(name: &[u8], line: u64, column: u64, why: &[u8]) {
 }
 
 // Whether a word is an option, where there is none; then the error is printed.
-pub fn refuse_option(word: &[u8]) -> bool {
+pub fn refuse_option(word: &[u8]) -> bool
+    ensures { λ r. ⌜ r ≡ isOption (now (word .entry)) ⌝ }
+{
     if word.len() < 2 {
         return false;
     }

@@ -1,6 +1,7 @@
 -- The buffers keep their lengths. The measure is the count of lines that are left. Assumes nothing.
 use borrow.Author.Needs.{needs}
 use Prim.Native.Nat.{_-_, _^_}
+use native.Mathlib.Omega.{arith}
 use mathlib.Core.Path.{_≡_}
 use lib.ListN.{length}
 use Rattle.command_run.proofs.run.run_lines.Statement.{statement}
@@ -72,10 +73,16 @@ take-line-requires : tie.Need-take-line-requires Inv-loop μ-loop
 take-line-requires c κs = search needs
 
 add-number : tie.Need-add-number Inv-loop μ-loop
-add-number c = search needs
+add-number c =
+    let b = c .before .before .before .before .before .before .before .before .before .before in
+    let t = b .before .before .before .before .before .before .before .before .before .before .loop-test .taken in
+    record { fits = omega (arith, t) }
 
 loop-less : tie.Need-loop-less Inv-loop μ-loop
-loop-less c = search needs
+loop-less c =
+    let b = c .before .before .before .before .before .before .before .before .before .before in
+    let t = b .before .before .before .before .before .before .before .before .before .before .loop-test .taken in
+    omega (arith, t)
 
 loop-again : tie.Need-loop-again Inv-loop μ-loop
 loop-again c = search needs

@@ -1,0 +1,2 @@
+-- The definitions of `command_frames`.
+pub mod Refusals

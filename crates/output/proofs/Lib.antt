@@ -1,0 +1,2 @@
+-- The work behind the contract of `refuse_option`.
+mod Options

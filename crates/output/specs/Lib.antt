@@ -1,0 +1,2 @@
+-- The definitions of `output`.
+pub mod Options

@@ -1,0 +1,2 @@
+-- The work behind the contracts of `setting`.
+mod Words

@@ -1,0 +1,3 @@
+-- The definitions of `setting`, and examples.
+pub mod Settings
+mod Examples

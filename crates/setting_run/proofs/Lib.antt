@@ -1,0 +1,2 @@
+-- The work behind the contract of `setting_run`.
+mod Runs

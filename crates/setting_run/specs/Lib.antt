@@ -1,0 +1,2 @@
+-- The definitions of `setting_run`.
+pub mod Runs
