@@ -19,16 +19,16 @@ use scenario::Item;
 use scenario::LOAD;
 use scenario::MEMORY;
 use scenario::SAVE;
-use setting::Setting;
-use setting::first_bytes;
-use setting::start;
-use setting::stopped;
-use setting::store;
-use setting::with_default_allowance;
-use setting::with_number;
-use setting::with_span;
-use setting::with_used;
-use setting_run::run_with;
+use scenario_setting::Setting;
+use scenario_setting::first_bytes;
+use scenario_setting::start;
+use scenario_setting::stopped;
+use scenario_setting::store;
+use scenario_setting::with_default_allowance;
+use scenario_setting::with_number;
+use scenario_setting::with_span;
+use scenario_setting::with_used;
+use scenario_run::run_with;
 use std::num::wrapping_add_u64;
 
 // So many bytes were taken, or an error was told.
