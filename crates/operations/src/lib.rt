@@ -86,7 +86,7 @@ fn unary_word(opcode: u8, a: u64) -> u64
 pub fn do_binary(
     rows: &[[u8; 4]; 53],
     code: &[u8],
-    cells: &mut [u64; 64],
+    cells: &mut [u64; Stack::DEPTH],
     opcode: u8,
     at: usize,
     height: usize,
@@ -120,7 +120,7 @@ pub fn do_binary(
 pub fn do_unary(
     rows: &[[u8; 4]; 53],
     code: &[u8],
-    cells: &mut [u64; 64],
+    cells: &mut [u64; Stack::DEPTH],
     opcode: u8,
     at: usize,
     height: usize,
@@ -145,7 +145,7 @@ pub fn do_unary(
 pub fn do_ext(
     rows: &[[u8; 4]; 53],
     code: &[u8],
-    cells: &mut [u64; 64],
+    cells: &mut [u64; Stack::DEPTH],
     at: usize,
     height: usize,
     put: usize,
@@ -170,7 +170,7 @@ pub fn do_ext(
 pub fn do_zero_ext(
     rows: &[[u8; 4]; 53],
     code: &[u8],
-    cells: &mut [u64; 64],
+    cells: &mut [u64; Stack::DEPTH],
     at: usize,
     height: usize,
     put: usize,
@@ -195,7 +195,7 @@ pub fn do_zero_ext(
 pub fn do_ref<'a>(
     rows: &[[u8; 4]; 53],
     code: &[u8],
-    cells: &mut [u64; 64],
+    cells: &mut [u64; Stack::DEPTH],
     image_first: u64,
     image: &'a [u8],
     work_first: u64,
@@ -234,7 +234,7 @@ pub fn do_ref<'a>(
 pub fn do_constant(
     rows: &[[u8; 4]; 53],
     code: &[u8],
-    cells: &mut [u64; 64],
+    cells: &mut [u64; Stack::DEPTH],
     opcode: u8,
     count: usize,
     at: usize,
@@ -259,7 +259,7 @@ pub fn do_constant(
 pub fn do_reg(
     rows: &[[u8; 4]; 53],
     code: &[u8],
-    cells: &mut [u64; 64],
+    cells: &mut [u64; Stack::DEPTH],
     registers: &[u64],
     at: usize,
     height: usize,
@@ -292,7 +292,7 @@ pub fn do_reg(
 pub fn do_getv(
     rows: &[[u8; 4]; 53],
     code: &[u8],
-    cells: &mut [u64; 64],
+    cells: &mut [u64; Stack::DEPTH],
     variables: &[u64; 64],
     at: usize,
     height: usize,
@@ -317,7 +317,7 @@ pub fn do_getv(
 pub fn do_setv(
     rows: &[[u8; 4]; 53],
     code: &[u8],
-    cells: &[u64; 64],
+    cells: &[u64; Stack::DEPTH],
     variables: &mut [u64; 64],
     at: usize,
     height: usize,
@@ -343,7 +343,7 @@ pub fn do_setv(
 pub fn do_goto(
     rows: &[[u8; 4]; 53],
     code: &[u8],
-    cells: &[u64; 64],
+    cells: &[u64; Stack::DEPTH],
     at: usize,
     height: usize,
     put: usize,
@@ -364,7 +364,7 @@ pub fn do_goto(
 pub fn do_if_goto(
     rows: &[[u8; 4]; 53],
     code: &[u8],
-    cells: &[u64; 64],
+    cells: &[u64; Stack::DEPTH],
     at: usize,
     height: usize,
     put: usize,
@@ -395,7 +395,7 @@ pub fn do_if_goto(
 pub fn do_dup(
     rows: &[[u8; 4]; 53],
     code: &[u8],
-    cells: &mut [u64; 64],
+    cells: &mut [u64; Stack::DEPTH],
     at: usize,
     height: usize,
     put: usize,
@@ -418,7 +418,7 @@ pub fn do_dup(
 pub fn do_pop(
     rows: &[[u8; 4]; 53],
     code: &[u8],
-    cells: &[u64; 64],
+    cells: &[u64; Stack::DEPTH],
     at: usize,
     height: usize,
     put: usize,
@@ -439,7 +439,7 @@ pub fn do_pop(
 pub fn do_swap(
     rows: &[[u8; 4]; 53],
     code: &[u8],
-    cells: &mut [u64; 64],
+    cells: &mut [u64; Stack::DEPTH],
     at: usize,
     height: usize,
     put: usize,
@@ -464,7 +464,7 @@ pub fn do_swap(
 pub fn do_pick(
     rows: &[[u8; 4]; 53],
     code: &[u8],
-    cells: &mut [u64; 64],
+    cells: &mut [u64; Stack::DEPTH],
     at: usize,
     height: usize,
     put: usize,
@@ -488,7 +488,7 @@ pub fn do_pick(
 pub fn do_rot(
     rows: &[[u8; 4]; 53],
     code: &[u8],
-    cells: &mut [u64; 64],
+    cells: &mut [u64; Stack::DEPTH],
     at: usize,
     height: usize,
     put: usize,

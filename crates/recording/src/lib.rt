@@ -149,7 +149,7 @@ fn onward(recorded: Recorded, at: usize, height: usize, next: usize, after: usiz
 pub fn do_trace<'a>(
     rows: &[[u8; 4]; 53],
     code: &[u8],
-    cells: &[u64; 64],
+    cells: &[u64; Stack::DEPTH],
     image_first: u64,
     image: &'a [u8],
     work_first: u64,
@@ -182,7 +182,7 @@ pub fn do_trace<'a>(
 pub fn do_tracenz<'a>(
     rows: &[[u8; 4]; 53],
     code: &[u8],
-    cells: &[u64; 64],
+    cells: &[u64; Stack::DEPTH],
     image_first: u64,
     image: &'a [u8],
     work_first: u64,
@@ -216,7 +216,7 @@ pub fn do_tracenz<'a>(
 pub fn do_trace_quick<'a>(
     rows: &[[u8; 4]; 53],
     code: &[u8],
-    cells: &[u64; 64],
+    cells: &[u64; Stack::DEPTH],
     image_first: u64,
     image: &'a [u8],
     work_first: u64,
@@ -251,7 +251,7 @@ pub fn do_trace_quick<'a>(
 pub fn do_tracev(
     rows: &[[u8; 4]; 53],
     code: &[u8],
-    cells: &mut [u64; 64],
+    cells: &mut [u64; Stack::DEPTH],
     variables: &[u64; 64],
     buffer: &mut [u8],
     at: usize,
