@@ -19,13 +19,13 @@ use memory::Search;
 use operations::Next;
 
 // 0 or a refusal's number, and the end of what is written.
-pub struct Recorded {
-    pub stop: u8,
-    pub put: usize,
+struct Recorded {
+    stop: u8,
+    put: usize,
 }
 
 // ---- records, or 21
-pub fn record_bytes(buffer: &mut [u8], put: usize, address: u64, bytes: &[u8]) -> Recorded
+fn record_bytes(buffer: &mut [u8], put: usize, address: u64, bytes: &[u8]) -> Recorded
     requires { ⌜ put ≤ length (now buffer) ⌝ ∗ ⌜ length (now bytes) ≤ 65535 ⌝ }
     ensures { λ r. ⌜ Kept (now (buffer .entry)) put (fitting (length (now (buffer .entry)) - put) (memory address (now (bytes .entry)))) r (now (buffer .exit)) ⌝ }
 {
@@ -39,7 +39,7 @@ pub fn record_bytes(buffer: &mut [u8], put: usize, address: u64, bytes: &[u8]) -
     }
 }
 
-pub fn record_variable(buffer: &mut [u8], put: usize, number: u32, value: u64) -> Recorded
+fn record_variable(buffer: &mut [u8], put: usize, number: u32, value: u64) -> Recorded
     requires { ⌜ put ≤ length (now buffer) ⌝ }
     ensures { λ r. ⌜ Kept (now (buffer .entry)) put (fitting (length (now (buffer .entry)) - put) (variable number value)) r (now (buffer .exit)) ⌝ }
 {
@@ -55,7 +55,7 @@ pub fn record_variable(buffer: &mut [u8], put: usize, number: u32, value: u64) -
 
 // ---- ranges: the size is compared as it is, and made narrower only where it is small
 // The `size` bytes at `address`. Neither 12 nor 13 is met, so that the bytes from there to the end of the span decide.
-pub fn record_range<'a>(
+fn record_range<'a>(
     image_first: u64,
     image: &'a [u8],
     work_first: u64,
@@ -93,7 +93,7 @@ fn search_limit(size: u64) -> usize
 }
 
 // The bytes at `address` up to and with the first zero, `size` at most.
-pub fn record_to_zero<'a>(
+fn record_to_zero<'a>(
     image_first: u64,
     image: &'a [u8],
     work_first: u64,
