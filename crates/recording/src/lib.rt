@@ -175,7 +175,8 @@ pub fn do_trace<'a>(
         address,
         size,
     );
-    onward(recorded, at, height, next, height - 2)
+    let after = operations::height_of(rows, 0x0c, height);
+    onward(recorded, at, height, next, after)
 }
 
 // tracenz: as trace, up to a zero byte.
@@ -208,11 +209,13 @@ pub fn do_tracenz<'a>(
         address,
         size,
     );
-    onward(recorded, at, height, next, height - 2)
+    let after = operations::height_of(rows, 0x2f, height);
+    onward(recorded, at, height, next, after)
 }
 
 // trace_quick and trace16: the size is the operand; the address stays on top. The next start is computed last: if the compiler kept it beside the
-// offset while the record is made, every step of a run would cost two machine instructions more.
+// offset while the record is made, every step of a run would cost two machine instructions more. The rows need and leave one cell, and the height is
+// not read from them: the compiler would then no longer place this function inside `step`.
 pub fn do_trace_quick<'a>(
     rows: &[[u8; 4]; 53],
     code: &[u8],
@@ -266,7 +269,8 @@ pub fn do_tracev(
     let value = variables[number as usize];
     let recorded = record_variable(buffer, put, number as u32, value);
     if recorded.stop == 0 {
-        let after = Stack::replace(cells, height, 0, value);
+        let needed = operations::needed_of(rows, 0x2e);
+        let after = Stack::replace(cells, height, needed, value);
         return Next {
             at: next,
             height: after,
