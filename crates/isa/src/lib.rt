@@ -192,7 +192,7 @@ impl Stack {
     }
 
     // The cell `depth` below the top.
-    pub fn below(cells: &[u64; 64], height: usize, depth: usize) -> u64
+    pub fn below(cells: &[u64; Stack::DEPTH], height: usize, depth: usize) -> u64
         requires { ⌜ depth < height ⌝ ∗ ⌜ height ≤ 64 ⌝ }
         ensures { λ r. ⌜ r ≡ getD (held (now (cells .entry)) height) depth 0 ⌝ }
     {
@@ -200,7 +200,7 @@ impl Stack {
     }
 
     // Puts `cell` in the place of the `count` topmost ones. The answer is the new height.
-    pub fn replace(cells: &mut [u64; 64], height: usize, count: usize, cell: u64) -> usize
+    pub fn replace(cells: &mut [u64; Stack::DEPTH], height: usize, count: usize, cell: u64) -> usize
         requires { ⌜ count ≤ height ⌝ ∗ ⌜ height - count < 64 ⌝ ∗ ⌜ length (now cells) ≡ 64 ⌝ }
         ensures { λ r. ⌜ (r ≡ height - count + 1) × (held (now (cells .exit)) r ≡ cell ∷ drop count (held (now (cells .entry)) height)) × (length (now (cells .exit)) ≡ 64) ⌝ }
     {

@@ -3,7 +3,7 @@
 ghost use mathlib.Core.Bool.{cond, false};
 ghost use mathlib.Core.List.{_∷_, []};
 ghost use mathlib.Core.Path.{_≡_};
-ghost use Prim.Native.Nat.{_+_, _≤_, _<_};
+ghost use Prim.Native.Nat.{_+_, _-_, _≤_, _<_};
 ghost use lib.ListN.{getD, set, take};
 ghost use lib.Dec.{eqb};
 ghost use Rattle.isa.specs.Classes.{binary, unary, ref, ext, «zero-ext», setv, «if-goto», goto, constant, reg, getv, dup, pop, swap, pick, rot, classOf, row};
@@ -34,6 +34,24 @@ pub fn next_of(rows: &[[u8; 4]; 53], opcode: u8, at: usize) -> usize
 {
     let row = isa::known_row(rows, opcode);
     at + 1 + row.operands as usize
+}
+
+// The cells that the instruction needs, by the row of the opcode.
+pub fn needed_of(rows: &[[u8; 4]; 53], opcode: u8) -> usize
+    requires { ⌜ now rows ≡ table ⌝ ∗ ⌜ opcode < 53 ⌝ }
+    ensures { λ r. ⌜ r ≡ getD (row (classOf opcode)) 1 0 ⌝ }
+{
+    let row = isa::known_row(rows, opcode);
+    row.needed as usize
+}
+
+// The height after the instruction, by the row of the opcode: the cells needed are taken, the cells left are put in their place.
+pub fn height_of(rows: &[[u8; 4]; 53], opcode: u8, height: usize) -> usize
+    requires { ⌜ now rows ≡ table ⌝ ∗ ⌜ opcode < 53 ⌝ ∗ ⌜ getD (row (classOf opcode)) 1 0 ≤ height ⌝ ∗ ⌜ height ≤ 64 ⌝ }
+    ensures { λ r. ⌜ r ≡ height - getD (row (classOf opcode)) 1 0 + getD (row (classOf opcode)) 2 0 ⌝ }
+{
+    let row = isa::known_row(rows, opcode);
+    height - row.needed as usize + row.left as usize
 }
 
 // Whether the divisor of the operator is zero.
@@ -86,7 +104,7 @@ fn unary_word(opcode: u8, a: u64) -> u64
 pub fn do_binary(
     rows: &[[u8; 4]; 53],
     code: &[u8],
-    cells: &mut [u64; 64],
+    cells: &mut [u64; Stack::DEPTH],
     opcode: u8,
     at: usize,
     height: usize,
@@ -107,7 +125,8 @@ pub fn do_binary(
         };
     }
     let word = binary_word(opcode, a, b);
-    let after = Stack::replace(cells, height, 2, word);
+    let needed = needed_of(rows, opcode);
+    let after = Stack::replace(cells, height, needed, word);
     Next {
         at: next,
         height: after,
@@ -120,7 +139,7 @@ pub fn do_binary(
 pub fn do_unary(
     rows: &[[u8; 4]; 53],
     code: &[u8],
-    cells: &mut [u64; 64],
+    cells: &mut [u64; Stack::DEPTH],
     opcode: u8,
     at: usize,
     height: usize,
@@ -132,7 +151,8 @@ pub fn do_unary(
     let next = next_of(rows, opcode, at);
     let a = Stack::below(cells, height, 0);
     let word = unary_word(opcode, a);
-    let after = Stack::replace(cells, height, 1, word);
+    let needed = needed_of(rows, opcode);
+    let after = Stack::replace(cells, height, needed, word);
     Next {
         at: next,
         height: after,
@@ -145,7 +165,7 @@ pub fn do_unary(
 pub fn do_ext(
     rows: &[[u8; 4]; 53],
     code: &[u8],
-    cells: &mut [u64; 64],
+    cells: &mut [u64; Stack::DEPTH],
     at: usize,
     height: usize,
     put: usize,
@@ -157,7 +177,8 @@ pub fn do_ext(
     let n = isa::operand_at(code, at, 1);
     let a = Stack::below(cells, height, 0);
     let word = arithmetic::ext(a, n);
-    let after = Stack::replace(cells, height, 1, word);
+    let needed = needed_of(rows, 0x16);
+    let after = Stack::replace(cells, height, needed, word);
     Next {
         at: next,
         height: after,
@@ -170,7 +191,7 @@ pub fn do_ext(
 pub fn do_zero_ext(
     rows: &[[u8; 4]; 53],
     code: &[u8],
-    cells: &mut [u64; 64],
+    cells: &mut [u64; Stack::DEPTH],
     at: usize,
     height: usize,
     put: usize,
@@ -182,7 +203,8 @@ pub fn do_zero_ext(
     let n = isa::operand_at(code, at, 1);
     let a = Stack::below(cells, height, 0);
     let word = arithmetic::zero_ext(a, n);
-    let after = Stack::replace(cells, height, 1, word);
+    let needed = needed_of(rows, 0x2a);
+    let after = Stack::replace(cells, height, needed, word);
     Next {
         at: next,
         height: after,
@@ -195,7 +217,7 @@ pub fn do_zero_ext(
 pub fn do_ref<'a>(
     rows: &[[u8; 4]; 53],
     code: &[u8],
-    cells: &mut [u64; 64],
+    cells: &mut [u64; Stack::DEPTH],
     image_first: u64,
     image: &'a [u8],
     work_first: u64,
@@ -221,7 +243,8 @@ pub fn do_ref<'a>(
         };
     }
     let word = encoding::little_endian(&rest[0..count]);
-    let after = Stack::replace(cells, height, 1, word);
+    let needed = needed_of(rows, opcode);
+    let after = Stack::replace(cells, height, needed, word);
     Next {
         at: next,
         height: after,
@@ -234,7 +257,7 @@ pub fn do_ref<'a>(
 pub fn do_constant(
     rows: &[[u8; 4]; 53],
     code: &[u8],
-    cells: &mut [u64; 64],
+    cells: &mut [u64; Stack::DEPTH],
     opcode: u8,
     count: usize,
     at: usize,
@@ -246,7 +269,8 @@ pub fn do_constant(
 {
     let next = next_of(rows, opcode, at);
     let word = isa::operand_at(code, at, count);
-    let after = Stack::replace(cells, height, 0, word);
+    let needed = needed_of(rows, opcode);
+    let after = Stack::replace(cells, height, needed, word);
     Next {
         at: next,
         height: after,
@@ -259,7 +283,7 @@ pub fn do_constant(
 pub fn do_reg(
     rows: &[[u8; 4]; 53],
     code: &[u8],
-    cells: &mut [u64; 64],
+    cells: &mut [u64; Stack::DEPTH],
     registers: &[u64],
     at: usize,
     height: usize,
@@ -279,7 +303,8 @@ pub fn do_reg(
         };
     }
     let word = registers[n];
-    let after = Stack::replace(cells, height, 0, word);
+    let needed = needed_of(rows, 0x26);
+    let after = Stack::replace(cells, height, needed, word);
     Next {
         at: next,
         height: after,
@@ -292,7 +317,7 @@ pub fn do_reg(
 pub fn do_getv(
     rows: &[[u8; 4]; 53],
     code: &[u8],
-    cells: &mut [u64; 64],
+    cells: &mut [u64; Stack::DEPTH],
     variables: &[u64; 64],
     at: usize,
     height: usize,
@@ -304,7 +329,8 @@ pub fn do_getv(
     let next = next_of(rows, 0x2c, at);
     let n = isa::operand_at(code, at, 2) as usize;
     let word = variables[n];
-    let after = Stack::replace(cells, height, 0, word);
+    let needed = needed_of(rows, 0x2c);
+    let after = Stack::replace(cells, height, needed, word);
     Next {
         at: next,
         height: after,
@@ -317,7 +343,7 @@ pub fn do_getv(
 pub fn do_setv(
     rows: &[[u8; 4]; 53],
     code: &[u8],
-    cells: &[u64; 64],
+    cells: &[u64; Stack::DEPTH],
     variables: &mut [u64; 64],
     at: usize,
     height: usize,
@@ -331,9 +357,10 @@ pub fn do_setv(
     let n = isa::operand_at(code, at, 2) as usize;
     let word = Stack::below(cells, height, 0);
     variables[n] = word;
+    let after = height_of(rows, 0x2d, height);
     Next {
         at: next,
-        height: height,
+        height: after,
         put,
         stop: 0,
     }
@@ -343,7 +370,7 @@ pub fn do_setv(
 pub fn do_goto(
     rows: &[[u8; 4]; 53],
     code: &[u8],
-    cells: &[u64; 64],
+    cells: &[u64; Stack::DEPTH],
     at: usize,
     height: usize,
     put: usize,
@@ -352,9 +379,10 @@ pub fn do_goto(
     ensures { λ r. ⌜ Moved at put (held (now (cells .entry)) height) (leaves [] []) (operand (now (code .entry)) at) 0 r (now (cells .entry)) ⌝ }
 {
     let target = isa::operand_at(code, at, 2) as usize;
+    let after = height_of(rows, 0x21, height);
     Next {
         at: target,
-        height: height,
+        height: after,
         put,
         stop: 0,
     }
@@ -364,7 +392,7 @@ pub fn do_goto(
 pub fn do_if_goto(
     rows: &[[u8; 4]; 53],
     code: &[u8],
-    cells: &[u64; 64],
+    cells: &[u64; Stack::DEPTH],
     at: usize,
     height: usize,
     put: usize,
@@ -373,11 +401,12 @@ pub fn do_if_goto(
     ensures { λ r. ⌜ Moved at put (held (now (cells .entry)) height) (leaves [] []) (cond (eqb (getD (held (now (cells .entry)) height) 0 0) 0) (next (now (code .entry)) at) (operand (now (code .entry)) at)) 1 r (now (cells .entry)) ⌝ }
 {
     let cell = Stack::below(cells, height, 0);
+    let after = height_of(rows, 0x20, height);
     if cell == 0 {
         let next = next_of(rows, 0x20, at);
         return Next {
             at: next,
-            height: height - 1,
+            height: after,
             put,
             stop: 0,
         };
@@ -385,7 +414,7 @@ pub fn do_if_goto(
     let target = isa::operand_at(code, at, 2) as usize;
     Next {
         at: target,
-        height: height - 1,
+        height: after,
         put,
         stop: 0,
     }
@@ -395,7 +424,7 @@ pub fn do_if_goto(
 pub fn do_dup(
     rows: &[[u8; 4]; 53],
     code: &[u8],
-    cells: &mut [u64; 64],
+    cells: &mut [u64; Stack::DEPTH],
     at: usize,
     height: usize,
     put: usize,
@@ -405,7 +434,9 @@ pub fn do_dup(
 {
     let next = next_of(rows, 0x28, at);
     let a = Stack::below(cells, height, 0);
-    let after = Stack::replace(cells, height, 0, a);
+    let needed = needed_of(rows, 0x28);
+    let lower = Stack::replace(cells, height, needed, a);
+    let after = Stack::replace(cells, lower, 0, a);
     Next {
         at: next,
         height: after,
@@ -418,7 +449,7 @@ pub fn do_dup(
 pub fn do_pop(
     rows: &[[u8; 4]; 53],
     code: &[u8],
-    cells: &[u64; 64],
+    cells: &[u64; Stack::DEPTH],
     at: usize,
     height: usize,
     put: usize,
@@ -427,9 +458,10 @@ pub fn do_pop(
     ensures { λ r. ⌜ Moved at put (held (now (cells .entry)) height) (leaves [] []) (next (now (code .entry)) at) 1 r (now (cells .entry)) ⌝ }
 {
     let next = next_of(rows, 0x29, at);
+    let after = height_of(rows, 0x29, height);
     Next {
         at: next,
-        height: height - 1,
+        height: after,
         put,
         stop: 0,
     }
@@ -439,7 +471,7 @@ pub fn do_pop(
 pub fn do_swap(
     rows: &[[u8; 4]; 53],
     code: &[u8],
-    cells: &mut [u64; 64],
+    cells: &mut [u64; Stack::DEPTH],
     at: usize,
     height: usize,
     put: usize,
@@ -450,7 +482,8 @@ pub fn do_swap(
     let next = next_of(rows, 0x2b, at);
     let b = Stack::below(cells, height, 0);
     let a = Stack::below(cells, height, 1);
-    let lower = Stack::replace(cells, height, 2, b);
+    let needed = needed_of(rows, 0x2b);
+    let lower = Stack::replace(cells, height, needed, b);
     let after = Stack::replace(cells, lower, 0, a);
     Next {
         at: next,
@@ -460,11 +493,11 @@ pub fn do_swap(
     }
 }
 
-// pick N.
+// pick N: its row needs and leaves N cells more, and these stay where they are: only the copy is put.
 pub fn do_pick(
     rows: &[[u8; 4]; 53],
     code: &[u8],
-    cells: &mut [u64; 64],
+    cells: &mut [u64; Stack::DEPTH],
     at: usize,
     height: usize,
     put: usize,
@@ -488,7 +521,7 @@ pub fn do_pick(
 pub fn do_rot(
     rows: &[[u8; 4]; 53],
     code: &[u8],
-    cells: &mut [u64; 64],
+    cells: &mut [u64; Stack::DEPTH],
     at: usize,
     height: usize,
     put: usize,
@@ -500,7 +533,8 @@ pub fn do_rot(
     let c = Stack::below(cells, height, 0);
     let b = Stack::below(cells, height, 1);
     let a = Stack::below(cells, height, 2);
-    let first = Stack::replace(cells, height, 3, c);
+    let needed = needed_of(rows, 0x33);
+    let first = Stack::replace(cells, height, needed, c);
     let second = Stack::replace(cells, first, 0, a);
     let after = Stack::replace(cells, second, 0, b);
     Next {

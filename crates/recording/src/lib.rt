@@ -19,13 +19,13 @@ use memory::Search;
 use operations::Next;
 
 // 0 or a refusal's number, and the end of what is written.
-pub struct Recorded {
-    pub stop: u8,
-    pub put: usize,
+struct Recorded {
+    stop: u8,
+    put: usize,
 }
 
 // ---- records, or 21
-pub fn record_bytes(buffer: &mut [u8], put: usize, address: u64, bytes: &[u8]) -> Recorded
+fn record_bytes(buffer: &mut [u8], put: usize, address: u64, bytes: &[u8]) -> Recorded
     requires { ⌜ put ≤ length (now buffer) ⌝ ∗ ⌜ length (now bytes) ≤ 65535 ⌝ }
     ensures { λ r. ⌜ Kept (now (buffer .entry)) put (fitting (length (now (buffer .entry)) - put) (memory address (now (bytes .entry)))) r (now (buffer .exit)) ⌝ }
 {
@@ -39,7 +39,7 @@ pub fn record_bytes(buffer: &mut [u8], put: usize, address: u64, bytes: &[u8]) -
     }
 }
 
-pub fn record_variable(buffer: &mut [u8], put: usize, number: u32, value: u64) -> Recorded
+fn record_variable(buffer: &mut [u8], put: usize, number: u32, value: u64) -> Recorded
     requires { ⌜ put ≤ length (now buffer) ⌝ }
     ensures { λ r. ⌜ Kept (now (buffer .entry)) put (fitting (length (now (buffer .entry)) - put) (variable number value)) r (now (buffer .exit)) ⌝ }
 {
@@ -55,7 +55,7 @@ pub fn record_variable(buffer: &mut [u8], put: usize, number: u32, value: u64) -
 
 // ---- ranges: the size is compared as it is, and made narrower only where it is small
 // The `size` bytes at `address`. Neither 12 nor 13 is met, so that the bytes from there to the end of the span decide.
-pub fn record_range<'a>(
+fn record_range<'a>(
     image_first: u64,
     image: &'a [u8],
     work_first: u64,
@@ -93,7 +93,7 @@ fn search_limit(size: u64) -> usize
 }
 
 // The bytes at `address` up to and with the first zero, `size` at most.
-pub fn record_to_zero<'a>(
+fn record_to_zero<'a>(
     image_first: u64,
     image: &'a [u8],
     work_first: u64,
@@ -149,7 +149,7 @@ fn onward(recorded: Recorded, at: usize, height: usize, next: usize, after: usiz
 pub fn do_trace<'a>(
     rows: &[[u8; 4]; 53],
     code: &[u8],
-    cells: &[u64; 64],
+    cells: &[u64; Stack::DEPTH],
     image_first: u64,
     image: &'a [u8],
     work_first: u64,
@@ -175,14 +175,15 @@ pub fn do_trace<'a>(
         address,
         size,
     );
-    onward(recorded, at, height, next, height - 2)
+    let after = operations::height_of(rows, 0x0c, height);
+    onward(recorded, at, height, next, after)
 }
 
 // tracenz: as trace, up to a zero byte.
 pub fn do_tracenz<'a>(
     rows: &[[u8; 4]; 53],
     code: &[u8],
-    cells: &[u64; 64],
+    cells: &[u64; Stack::DEPTH],
     image_first: u64,
     image: &'a [u8],
     work_first: u64,
@@ -208,15 +209,17 @@ pub fn do_tracenz<'a>(
         address,
         size,
     );
-    onward(recorded, at, height, next, height - 2)
+    let after = operations::height_of(rows, 0x2f, height);
+    onward(recorded, at, height, next, after)
 }
 
 // trace_quick and trace16: the size is the operand; the address stays on top. The next start is computed last: if the compiler kept it beside the
-// offset while the record is made, every step of a run would cost two machine instructions more.
+// offset while the record is made, every step of a run would cost two machine instructions more. The rows need and leave one cell, and the height is
+// not read from them: the compiler would then no longer place this function inside `step`.
 pub fn do_trace_quick<'a>(
     rows: &[[u8; 4]; 53],
     code: &[u8],
-    cells: &[u64; 64],
+    cells: &[u64; Stack::DEPTH],
     image_first: u64,
     image: &'a [u8],
     work_first: u64,
@@ -251,7 +254,7 @@ pub fn do_trace_quick<'a>(
 pub fn do_tracev(
     rows: &[[u8; 4]; 53],
     code: &[u8],
-    cells: &mut [u64; 64],
+    cells: &mut [u64; Stack::DEPTH],
     variables: &[u64; 64],
     buffer: &mut [u8],
     at: usize,
@@ -266,7 +269,8 @@ pub fn do_tracev(
     let value = variables[number as usize];
     let recorded = record_variable(buffer, put, number as u32, value);
     if recorded.stop == 0 {
-        let after = Stack::replace(cells, height, 0, value);
+        let needed = operations::needed_of(rows, 0x2e);
+        let after = Stack::replace(cells, height, needed, value);
         return Next {
             at: next,
             height: after,

@@ -31,7 +31,7 @@ pub enum Outcome {
 // Used by the entry that is given no allowance.
 pub const DEFAULT_ALLOWANCE: u64 = 1024;
 
-fn value_of(cells: &[u64; 64], height: usize) -> Value
+fn value_of(cells: &[u64; Stack::DEPTH], height: usize) -> Value
     requires { ⌜ height ≤ 64 ⌝ }
     ensures { λ r. ⌜ answerOf r ≡ answer (held (now (cells .entry)) height) ⌝ }
 {

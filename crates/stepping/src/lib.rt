@@ -8,6 +8,7 @@ ghost use Rattle.memory.specs.Spans.{spansRefusal};
 ghost use Rattle.machine.specs.Fed.{fed};
 ghost use Rattle.operations.specs.Here.{Place};
 ghost use Rattle.stepping.specs.Effect.{effect, Did, Ends};
+use isa::Stack;
 use operations::Next;
 
 // end: whether there is room for the trailer.
@@ -48,7 +49,7 @@ pub fn step<'a>(
     image: &'a [u8],
     work_first: u64,
     work: &'a [u8],
-    cells: &mut [u64; 64],
+    cells: &mut [u64; Stack::DEPTH],
     variables: &mut [u64; 64],
     buffer: &mut [u8],
     at: usize,

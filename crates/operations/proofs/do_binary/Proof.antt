@@ -1,6 +1,6 @@
 use mathlib.Core.Path.{refl, sym, _∙_}
 use Rattle.operations.proofs.Cases.{moves-to, stops-at, binary-left, binary-refused}
-use Rattle.operations.proofs.Placing.{next-here}
+use Rattle.operations.proofs.Placing.{next-here, needed-here}
 use borrow.Author.Needs.{needs}
 use Rattle.operations.proofs.do_binary.Statement.{statement}
 use Rattle.operations.proofs.do_binary.Tie as tie
@@ -23,11 +23,19 @@ returns c = stops-at refl (c .before .before .before .before .before .before .be
 binary-word-requires : tie.Need-binary-word-requires
 binary-word-requires c κs = sym (c .before .is-zero-divisor .ensures) ∙ c .if1 .left
 
+needed-of-requires : tie.Need-needed-of-requires
+needed-of-requires c κs = search needs
+
 replace-requires : tie.Need-replace-requires
-replace-requires c κs = search needs
+replace-requires c κs =
+    let n = c .before in let s = n .before .before .before .before .before .before .before .before .before .before in
+    let m = needed-here (s .pre) (n .needed-of .ensures) in search needs
 
 returns-2 : tie.Need-returns-2
-returns-2 c = moves-to refl (c .replace .ensures .2) (binary-left _ (c .before .before .before .before .before .below2 .ensures) (c .before .before .before .before .before .before .before .below .ensures) (c .before .before .before .before .is-zero-divisor .ensures) (c .before .before .before .if1 .left) (c .before .before .binary-word .ensures)) refl (next-here (c .before .before .before .before .before .before .before .before .before .before .before .pre) (c .before .before .before .before .before .before .before .before .before .next-of .ensures)) (c .replace .ensures .1)
+returns-2 c =
+    let n = c .before .before in let w = n .before in let i = w .before in let z = i .before in let a = z .before in let b = a .before .before in let x = b .before .before in let s = x .before .before in
+    moves-to refl (c .replace .ensures .2) (binary-left _ (a .below2 .ensures) (b .below .ensures) (z .is-zero-divisor .ensures) (i .if1 .left) (w .binary-word .ensures)) refl
+    (next-here (s .pre) (x .next-of .ensures)) (rw (needed-here (s .pre) (n .needed-of .ensures)) at (c .replace .ensures .1))
 
 pub do-binary-spec : {M : Type 1} → statement M
 do-binary-spec =
@@ -39,5 +47,5 @@ do-binary-spec =
     is-zero-divisor-requires
     returns
     binary-word-requires
-    replace-requires
+    needed-of-requires replace-requires
     returns-2)

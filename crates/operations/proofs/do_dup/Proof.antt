@@ -1,7 +1,5 @@
-use Rattle.isa.proofs.Promises.{held-top}
 use mathlib.Core.Path.{refl}
-use native.Mathlib.Omega.{arith}
-use Rattle.operations.proofs.Placing.{next-here}
+use Rattle.operations.proofs.Placing.{next-here, needed-here}
 use borrow.Author.Needs.{needs}
 use Rattle.operations.proofs.do_dup.Statement.{statement}
 use Rattle.operations.proofs.do_dup.Tie as tie
@@ -12,11 +10,24 @@ next-of-requires c κs = search needs
 below-requires : tie.Need-below-requires
 below-requires c κs = search needs
 
+needed-of-requires : tie.Need-needed-of-requires
+needed-of-requires c κs = search needs
+
 replace-requires : tie.Need-replace-requires
-replace-requires c κs = search needs
+replace-requires c κs =
+    let n = c .before in let s = n .before .before .before .before .before in
+    let m = needed-here (s .pre) (n .needed-of .ensures) in search needs
+
+replace-requires-2 : tie.Need-replace-requires-2
+replace-requires-2 c κs =
+    let n = c .before .before .before in let s = n .before .before .before .before .before in
+    let m = needed-here (s .pre) (n .needed-of .ensures) in search needs
 
 returns : tie.Need-returns
-returns c = let a = c .before .before .before .before .before .before .args in record { stop = refl; at = next-here (c .before .before .before .before .before .before .pre) (c .before .before .before .before .next-of .ensures); stack = cc (held-top (a .cells .now) (a .height) (omega (arith, c .before .before .before .before .before .before .pre .cells))); put = refl; long = c .replace .ensures .2 }
+returns c =
+    let r = c .before .before in let n = r .before .before in let x = n .before .before .before in let s = x .before .before in
+    let e = rw (needed-here (s .pre) (n .needed-of .ensures)) at (r .replace .ensures .1) in
+    record { stop = refl; at = next-here (s .pre) (x .next-of .ensures); stack = cc e; put = refl; long = c .replace2 .ensures .2 }
 
 pub do-dup-spec : {M : Type 1} → statement M
-do-dup-spec = tie.close (tie.spec next-of-requires below-requires replace-requires returns)
+do-dup-spec = tie.close (tie.spec next-of-requires below-requires needed-of-requires replace-requires replace-requires-2 returns)

@@ -1,6 +1,6 @@
 use mathlib.Core.Path.{refl}
 use native.Mathlib.Omega.{arith}
-use Rattle.operations.proofs.Placing.{next-here}
+use Rattle.operations.proofs.Placing.{next-here, needed-here}
 use borrow.Author.Needs.{needs}
 use Rattle.operations.proofs.do_getv.Statement.{statement}
 use Rattle.operations.proofs.do_getv.Tie as tie
@@ -17,11 +17,19 @@ mul-word c = search needs
 element-copy-out-word : tie.Need-element-copy-out-word
 element-copy-out-word c = omega (arith, c .before .before .before .pre .variable-low refl, c .operand-at .ensures .0)
 
+needed-of-requires : tie.Need-needed-of-requires
+needed-of-requires c κs = search needs
+
 replace-requires : tie.Need-replace-requires
-replace-requires c κs = search needs
+replace-requires c κs =
+    let n = c .before in let s = n .before .before .before .before .before in
+    let m = needed-here (s .pre) (n .needed-of .ensures) in search needs
 
 returns : tie.Need-returns
-returns c = record { stop = refl; at = next-here (c .before .before .before .before .before .before .pre) (c .before .before .before .before .next-of .ensures); stack = cc; put = refl; long = c .replace .ensures .2 }
+returns c =
+    let n = c .before .before in let x = n .before .before .before in let s = x .before .before in
+    let e = rw (needed-here (s .pre) (n .needed-of .ensures)) at (c .replace .ensures .1) in
+    record { stop = refl; at = next-here (s .pre) (x .next-of .ensures); stack = cc e; put = refl; long = c .replace .ensures .2 }
 
 pub do-getv-spec : {M : Type 1} → statement M
 do-getv-spec =
@@ -31,5 +39,5 @@ do-getv-spec =
     operand-at-requires
     mul-word
     element-copy-out-word
-    replace-requires
+    needed-of-requires replace-requires
     returns)

@@ -1,7 +1,6 @@
 use mathlib.Core.Path.{refl, sym, _∙_}
 use borrow.Author.Tests.{eq-eqb, ne-eqb}
-use Rattle.isa.proofs.Promises.{held-drop}
-use Rattle.operations.proofs.Placing.{next-here}
+use Rattle.operations.proofs.Placing.{next-here, cells-here, taken-here}
 use borrow.Author.Needs.{needs}
 use Rattle.operations.proofs.do_if_goto.Statement.{statement}
 use Rattle.operations.proofs.do_if_goto.Tie as tie
@@ -9,32 +8,32 @@ use Rattle.operations.proofs.do_if_goto.Tie as tie
 below-requires : tie.Need-below-requires
 below-requires c κs = search needs
 
+height-of-requires : tie.Need-height-of-requires
+height-of-requires c κs =
+    let s = c .before .before in let m = cells-here (s .pre) in search needs
+
 next-of-requires : tie.Need-next-of-requires
 next-of-requires c κs = search needs
 
-sub-t11 : tie.Need-sub-t11
-sub-t11 c = search needs
-
 returns : tie.Need-returns
-returns c = let a = c .before .before .before .before .args in record { stop = refl; at = rw (eq-eqb _ 0 (sym (c .before .before .below .ensures) ∙ c .before .if1 .taken)) (next-here (c .before .before .before .before .pre) (c .next-of .ensures)); stack = held-drop (a .cells .now) (a .height) 1 (c .before .before .before .before .pre .cells); put = refl; long = c .before .before .before .before .pre .long }
+returns c =
+    let i = c .before in let g = i .before in let b = g .before in let s = b .before .before in
+    record { stop = refl; at = rw (eq-eqb _ 0 (sym (b .below .ensures) ∙ i .if1 .taken)) (next-here (s .pre) (c .next-of .ensures)); stack = taken-here (s .pre) (g .height-of .ensures) refl; put = refl; long = s .pre .long }
 
 operand-at-requires : tie.Need-operand-at-requires
 operand-at-requires c κs = search needs
 
-sub-t13 : tie.Need-sub-t13
-sub-t13 c = search needs
-
 returns-2 : tie.Need-returns-2
-returns-2 c = let a = c .before .before .before .before .args in record { stop = refl; at = rw (ne-eqb _ 0 (λ z. c .before .if1 .left (c .before .before .below .ensures ∙ z))) (c .operand-at .ensures .0); stack = held-drop (a .cells .now) (a .height) 1 (c .before .before .before .before .pre .cells); put = refl; long = c .before .before .before .before .pre .long }
+returns-2 c =
+    let i = c .before in let g = i .before in let b = g .before in let s = b .before .before in
+    record { stop = refl; at = rw (ne-eqb _ 0 (λ z. i .if1 .left (b .below .ensures ∙ z))) (c .operand-at .ensures .0); stack = taken-here (s .pre) (g .height-of .ensures) refl; put = refl; long = s .pre .long }
 
 pub do-if-goto-spec : {M : Type 1} → statement M
 do-if-goto-spec =
     tie.close
     (tie.spec
     below-requires
-    next-of-requires
-    sub-t11
+    height-of-requires next-of-requires
     returns
     operand-at-requires
-    sub-t13
     returns-2)

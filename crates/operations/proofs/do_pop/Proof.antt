@@ -1,6 +1,5 @@
 use mathlib.Core.Path.{refl}
-use Rattle.isa.proofs.Promises.{held-drop}
-use Rattle.operations.proofs.Placing.{next-here}
+use Rattle.operations.proofs.Placing.{next-here, cells-here, taken-here}
 use borrow.Author.Needs.{needs}
 use Rattle.operations.proofs.do_pop.Statement.{statement}
 use Rattle.operations.proofs.do_pop.Tie as tie
@@ -8,11 +7,14 @@ use Rattle.operations.proofs.do_pop.Tie as tie
 next-of-requires : tie.Need-next-of-requires
 next-of-requires c κs = search needs
 
-sub-t8 : tie.Need-sub-t8
-sub-t8 c = search needs
+height-of-requires : tie.Need-height-of-requires
+height-of-requires c κs =
+    let s = c .before .before in let m = cells-here (s .pre) in search needs
 
 returns : tie.Need-returns
-returns c = let a = c .before .before .args in record { stop = refl; at = next-here (c .before .before .pre) (c .next-of .ensures); stack = held-drop (a .cells .now) (a .height) 1 (c .before .before .pre .cells); put = refl; long = c .before .before .pre .long }
+returns c =
+    let x = c .before in let s = x .before .before in
+    record { stop = refl; at = next-here (s .pre) (x .next-of .ensures); stack = taken-here (s .pre) (c .height-of .ensures) refl; put = refl; long = s .pre .long }
 
 pub do-pop-spec : {M : Type 1} → statement M
-do-pop-spec = tie.close (tie.spec next-of-requires sub-t8 returns)
+do-pop-spec = tie.close (tie.spec next-of-requires height-of-requires returns)

@@ -5,7 +5,7 @@ use native.Mathlib.Nat.{sub-zero}
 use mathlib.Core.Path.{_≡_, refl, _∙_}
 use native.Mathlib.Omega.{arith}
 use Rattle.operations.proofs.Cases.{moves-to, stops-at, ref-left, ref-refused}
-use Rattle.operations.proofs.Placing.{next-here}
+use Rattle.operations.proofs.Placing.{next-here, needed-here}
 use borrow.Author.Needs.{needs}
 use Rattle.operations.proofs.do_ref.Statement.{statement}
 use Rattle.operations.proofs.do_ref.Tie as tie
@@ -34,11 +34,20 @@ part-little-endian-end c = search needs
 little-endian-requires : tie.Need-little-endian-requires
 little-endian-requires c κs = search needs
 
+needed-of-requires : tie.Need-needed-of-requires
+needed-of-requires c κs = search needs
+
 replace-requires : tie.Need-replace-requires
-replace-requires c κs = search needs
+replace-requires c κs =
+    let n = c .before in let s = n .before .before .before .before .before .before .before .before .before .before .before in
+    let m = needed-here (s .pre .0) (n .needed-of .ensures) in search needs
 
 returns-2 : tie.Need-returns-2
-returns-2 c = let p = c .before .before .before .before .before .before .before .before .before .before .before .before .pre .1 in let w : c .before .before .little-endian .result ≡ littleEndian (take (c .before .before .before .before .before .before .before .before .before .before .before .before .args .count) (now (c .before .before .before .before .before .rest .result))) = c .before .before .little-endian .ensures .0 ∙ rw sub-zero refl in moves-to refl (c .replace .ensures .2) (ref-left _ _ (p .2) (p .0) (c .before .before .before .before .before .rest .ensures) (c .before .before .before .before .before .before .below .ensures) (omega arith)) refl (next-here (c .before .before .before .before .before .before .before .before .before .before .before .before .pre .0) (c .before .before .before .before .before .before .before .before .next-of .ensures)) (cc)
+returns-2 c =
+    let n = c .before .before in let l = n .before in let r = l .before .before .before in let b = r .before in let x = b .before .before in let s = x .before .before .before .before in
+    let w : l .little-endian .result ≡ littleEndian (take (s .args .count) (now (r .rest .result))) = l .little-endian .ensures .0 ∙ rw sub-zero refl in
+    moves-to refl (c .replace .ensures .2) (ref-left _ _ (s .pre .1 .2) (s .pre .1 .0) (r .rest .ensures) (b .below .ensures) (omega arith)) refl
+    (next-here (s .pre .0) (x .next-of .ensures)) (cc (rw (needed-here (s .pre .0) (n .needed-of .ensures)) at (c .replace .ensures .1)))
 
 pub do-ref-spec : {M : Type 1} → statement M
 do-ref-spec =
@@ -52,5 +61,5 @@ do-ref-spec =
     part-little-endian-start
     part-little-endian-end
     little-endian-requires
-    replace-requires
+    needed-of-requires replace-requires
     returns-2)

@@ -1,7 +1,7 @@
 use mathlib.Core.Path.{refl}
 use native.Mathlib.Omega.{arith}
 use Rattle.operations.proofs.Cases.{moves-to, stops-at, reg-left, reg-refused}
-use Rattle.operations.proofs.Placing.{next-here}
+use Rattle.operations.proofs.Placing.{next-here, needed-here}
 use borrow.Author.Needs.{needs}
 use Rattle.operations.proofs.do_reg.Statement.{statement}
 use Rattle.operations.proofs.do_reg.Tie as tie
@@ -21,11 +21,19 @@ mul-word c = search needs
 shared-slice-read-word : tie.Need-shared-slice-read-word
 shared-slice-read-word c = search needs
 
+needed-of-requires : tie.Need-needed-of-requires
+needed-of-requires c κs = search needs
+
 replace-requires : tie.Need-replace-requires
-replace-requires c κs = search needs
+replace-requires c κs =
+    let n = c .before in let s = n .before .before .before .before .before .before .before in
+    let m = needed-here (s .pre) (n .needed-of .ensures) in search needs
 
 returns-2 : tie.Need-returns-2
-returns-2 c = moves-to refl (c .replace .ensures .2) (reg-left _ (c .before .before .before .before .operand-at .ensures .0) (omega arith)) refl (next-here (c .before .before .before .before .before .before .before .before .pre) (c .before .before .before .before .before .next-of .ensures)) (c .replace .ensures .1)
+returns-2 c =
+    let n = c .before .before in let o = n .before .before .before in let x = o .before in let s = x .before .before .before in
+    moves-to refl (c .replace .ensures .2) (reg-left _ (o .operand-at .ensures .0) (omega arith)) refl (next-here (s .pre) (x .next-of .ensures))
+    (rw (needed-here (s .pre) (n .needed-of .ensures)) at (c .replace .ensures .1))
 
 pub do-reg-spec : {M : Type 1} → statement M
 do-reg-spec =
@@ -36,5 +44,5 @@ do-reg-spec =
     returns
     mul-word
     shared-slice-read-word
-    replace-requires
+    needed-of-requires replace-requires
     returns-2)

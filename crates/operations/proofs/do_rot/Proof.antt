@@ -1,5 +1,5 @@
 use mathlib.Core.Path.{refl}
-use Rattle.operations.proofs.Placing.{next-here}
+use Rattle.operations.proofs.Placing.{next-here, needed-here}
 use borrow.Author.Needs.{needs}
 use Rattle.operations.proofs.do_rot.Statement.{statement}
 use Rattle.operations.proofs.do_rot.Tie as tie
@@ -16,17 +16,29 @@ below-requires-2 c κs = search needs
 below-requires-3 : tie.Need-below-requires-3
 below-requires-3 c κs = search needs
 
+needed-of-requires : tie.Need-needed-of-requires
+needed-of-requires c κs = search needs
+
 replace-requires : tie.Need-replace-requires
-replace-requires c κs = search needs
+replace-requires c κs =
+    let n = c .before in let s = n .before .before .before .before .before .before .before .before .before in
+    let m = needed-here (s .pre) (n .needed-of .ensures) in search needs
 
 replace-requires-2 : tie.Need-replace-requires-2
-replace-requires-2 c κs = search needs
+replace-requires-2 c κs =
+    let n = c .before .before .before in let s = n .before .before .before .before .before .before .before .before .before in
+    let m = needed-here (s .pre) (n .needed-of .ensures) in search needs
 
 replace-requires-3 : tie.Need-replace-requires-3
-replace-requires-3 c κs = search needs
+replace-requires-3 c κs =
+    let n = c .before .before .before .before .before in let s = n .before .before .before .before .before .before .before .before .before in
+    let m = needed-here (s .pre) (n .needed-of .ensures) in search needs
 
 returns : tie.Need-returns
-returns c = record { stop = refl; at = next-here (c .before .before .before .before .before .before .before .before .before .before .before .before .before .before .pre) (c .before .before .before .before .before .before .before .before .before .before .before .before .next-of .ensures); stack = cc; put = refl; long = c .replace3 .ensures .2 }
+returns c =
+    let r2 = c .before .before in let r = r2 .before .before in let n = r .before .before in let a = n .before in let b = a .before .before in let d = b .before .before in let x = d .before .before in let s = x .before .before in
+    let e = rw (needed-here (s .pre) (n .needed-of .ensures)) at (r .replace .ensures .1) in
+    record { stop = refl; at = next-here (s .pre) (x .next-of .ensures); stack = cc (e, r2 .replace2 .ensures .1, a .below3 .ensures, b .below2 .ensures, d .below .ensures); put = refl; long = c .replace3 .ensures .2 }
 
 pub do-rot-spec : {M : Type 1} → statement M
 do-rot-spec =
@@ -36,7 +48,7 @@ do-rot-spec =
     below-requires
     below-requires-2
     below-requires-3
-    replace-requires
+    needed-of-requires replace-requires
     replace-requires-2
     replace-requires-3
     returns)

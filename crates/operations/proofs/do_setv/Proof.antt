@@ -1,7 +1,7 @@
 use mathlib.Core.Path.{refl}
 use native.Mathlib.Omega.{arith}
 use Rattle.isa.proofs.Promises.{held-top}
-use Rattle.operations.proofs.Placing.{next-here}
+use Rattle.operations.proofs.Placing.{next-here, cells-here, same-here}
 use borrow.Author.Needs.{needs}
 use Rattle.operations.proofs.do_setv.Statement.{statement}
 use Rattle.operations.proofs.do_setv.Tie as tie
@@ -21,8 +21,14 @@ mul-variables c = search needs
 element-write-variables : tie.Need-element-write-variables
 element-write-variables c = omega (arith, c .before .before .before .before .pre .variable-low refl, c .before .operand-at .ensures .0)
 
+height-of-requires : tie.Need-height-of-requires
+height-of-requires c κs =
+    let s = c .before .before .before .before in let m = cells-here (s .pre) in search needs
+
 returns : tie.Need-returns
-returns c = let a = c .before .before .before .before .args in (record { stop = refl; at = next-here (c .before .before .before .before .pre) (c .before .before .next-of .ensures); stack = held-top (a .cells .now) (a .height) (omega (arith, c .before .before .before .before .pre .cells)); put = refl; long = c .before .before .before .before .pre .long }, cc)
+returns c =
+    let x = c .before .before .before in let s = x .before .before in
+    (record { stop = refl; at = next-here (s .pre) (x .next-of .ensures); stack = rw (same-here (s .pre) (c .height-of .ensures) refl) (held-top _ _ (omega (arith, s .pre .cells))); put = refl; long = s .pre .long }, cc)
 
 pub do-setv-spec : {M : Type 1} → statement M
 do-setv-spec =
@@ -33,4 +39,4 @@ do-setv-spec =
     below-requires
     mul-variables
     element-write-variables
-    returns)
+    height-of-requires returns)

@@ -1,5 +1,5 @@
 use mathlib.Core.Path.{refl}
-use Rattle.operations.proofs.Placing.{next-here}
+use Rattle.operations.proofs.Placing.{next-here, needed-here}
 use borrow.Author.Needs.{needs}
 use Rattle.operations.proofs.do_swap.Statement.{statement}
 use Rattle.operations.proofs.do_swap.Tie as tie
@@ -13,14 +13,24 @@ below-requires c κs = search needs
 below-requires-2 : tie.Need-below-requires-2
 below-requires-2 c κs = search needs
 
+needed-of-requires : tie.Need-needed-of-requires
+needed-of-requires c κs = search needs
+
 replace-requires : tie.Need-replace-requires
-replace-requires c κs = search needs
+replace-requires c κs =
+    let n = c .before in let s = n .before .before .before .before .before .before .before in
+    let m = needed-here (s .pre) (n .needed-of .ensures) in search needs
 
 replace-requires-2 : tie.Need-replace-requires-2
-replace-requires-2 c κs = search needs
+replace-requires-2 c κs =
+    let n = c .before .before .before in let s = n .before .before .before .before .before .before .before in
+    let m = needed-here (s .pre) (n .needed-of .ensures) in search needs
 
 returns : tie.Need-returns
-returns c = record { stop = refl; at = next-here (c .before .before .before .before .before .before .before .before .before .before .pre) (c .before .before .before .before .before .before .before .before .next-of .ensures); stack = cc; put = refl; long = c .replace2 .ensures .2 }
+returns c =
+    let r = c .before .before in let n = r .before .before in let x = n .before .before .before .before .before in let s = x .before .before in
+    let e = rw (needed-here (s .pre) (n .needed-of .ensures)) at (r .replace .ensures .1) in
+    record { stop = refl; at = next-here (s .pre) (x .next-of .ensures); stack = cc e; put = refl; long = c .replace2 .ensures .2 }
 
 pub do-swap-spec : {M : Type 1} → statement M
 do-swap-spec =
@@ -29,6 +39,6 @@ do-swap-spec =
     next-of-requires
     below-requires
     below-requires-2
-    replace-requires
+    needed-of-requires replace-requires
     replace-requires-2
     returns)

@@ -1,5 +1,5 @@
 use mathlib.Core.Path.{refl}
-use Rattle.operations.proofs.Placing.{next-here}
+use Rattle.operations.proofs.Placing.{next-here, needed-here}
 use borrow.Author.Needs.{needs}
 use Rattle.operations.proofs.do_unary.Statement.{statement}
 use Rattle.operations.proofs.do_unary.Tie as tie
@@ -13,13 +13,21 @@ below-requires c κs = search needs
 unary-word-requires : tie.Need-unary-word-requires
 unary-word-requires c κs = search needs
 
+needed-of-requires : tie.Need-needed-of-requires
+needed-of-requires c κs = search needs
+
 replace-requires : tie.Need-replace-requires
-replace-requires c κs = search needs
+replace-requires c κs =
+    let n = c .before in let s = n .before .before .before .before .before .before in
+    let m = needed-here (s .pre) (n .needed-of .ensures) in search needs
 
 returns : tie.Need-returns
-returns c = record { stop = refl; at = next-here (c .before .before .before .before .before .before .before .pre) (c .before .before .before .before .before .next-of .ensures); stack = cc; put = refl; long = c .replace .ensures .2 }
+returns c =
+    let n = c .before .before in let x = n .before .before .before .before in let s = x .before .before in
+    let e = rw (needed-here (s .pre) (n .needed-of .ensures)) at (c .replace .ensures .1) in
+    record { stop = refl; at = next-here (s .pre) (x .next-of .ensures); stack = cc e; put = refl; long = c .replace .ensures .2 }
 
 pub do-unary-spec : {M : Type 1} → statement M
 do-unary-spec =
     tie.close
-    (tie.spec next-of-requires below-requires unary-word-requires replace-requires returns)
+    (tie.spec next-of-requires below-requires unary-word-requires needed-of-requires replace-requires returns)

@@ -1,7 +1,6 @@
 use mathlib.Core.List.{[]}
 use mathlib.Core.Path.{refl}
-use Rattle.isa.proofs.Promises.{held-drop}
-use Rattle.operations.proofs.Placing.{next-here}
+use Rattle.operations.proofs.Placing.{next-here, cells-here, taken-here}
 use Rattle.recording.proofs.Making.{range-fed}
 use Rattle.recording.proofs.Logging.{kept-as, logged}
 use borrow.Author.Needs.{needs}
@@ -20,8 +19,9 @@ below-requires-2 c κs = search needs
 record-range-requires : tie.Need-record-range-requires
 record-range-requires c κs = search needs
 
-sub-onward : tie.Need-sub-onward
-sub-onward c = search needs
+height-of-requires : tie.Need-height-of-requires
+height-of-requires c κs =
+    let s = c .before .before .before .before .before .before .before .before .before .before .before in let m = cells-here (s .pre .0) in search needs
 
 onward-requires : tie.Need-onward-requires
 onward-requires c κs = search needs
@@ -31,9 +31,9 @@ same-length c = search needs
 
 returns : tie.Need-returns
 returns c =
-    let w = c .before .before .before in let b = w .before .before in let n = b .before .before in let s = n .before .before .before .before .before in
-    logged [] _ (kept-as (range-fed _ _ _ _ _ _ _ (b .below2 .ensures) (b .before .below .ensures)) (w .record-range .ensures)) (c .onward .ensures)
-    (next-here (s .pre .0) (n .next-of .ensures)) refl (held-drop _ _ 2 (s .pre .0 .cells)) (s .pre .0 .long)
+    let g = c .before in let w = g .before .before .before in let b = w .before .before in let d = b .before in let n = d .before in let s = n .before .before .before .before .before in
+    logged [] _ (kept-as (range-fed _ _ _ _ _ _ _ (b .below2 .ensures) (d .below .ensures)) (w .record-range .ensures)) (c .onward .ensures)
+    (next-here (s .pre .0) (n .next-of .ensures)) refl (taken-here (s .pre .0) (g .height-of .ensures) refl) (s .pre .0 .long)
 
 pub do-trace-spec : {M : Type 1} → statement M
 do-trace-spec =
@@ -43,7 +43,7 @@ do-trace-spec =
     below-requires
     below-requires-2
     record-range-requires
-    sub-onward
+    height-of-requires
     onward-requires
     same-length
     returns)

@@ -4,7 +4,7 @@ use native.Mathlib.Omega.{arith}
 use lib.ListN.{getD}
 use denote.Ref.{now}
 use Rattle.isa.specs.Decode.{operand}
-use Rattle.operations.proofs.Placing.{next-here}
+use Rattle.operations.proofs.Placing.{next-here, needed-here}
 use Rattle.recording.proofs.Logging.{logged-made, logged-refused}
 use borrow.Author.Needs.{needs}
 use Rattle.recording.proofs.do_tracev.Statement.{statement}
@@ -28,17 +28,22 @@ cast-record-variable c = search needs
 record-variable-requires : tie.Need-record-variable-requires
 record-variable-requires c κs = search needs
 
+needed-of-requires : tie.Need-needed-of-requires
+needed-of-requires c κs = search needs
+
 replace-requires : tie.Need-replace-requires
-replace-requires c κs = search needs
+replace-requires c κs =
+    let n = c .before in let s = n .before .before .before .before .before .before .before .before .before .before .before .before in
+    let m = needed-here (s .pre .0) (n .needed-of .ensures) in search needs
 
 same-length : tie.Need-same-length
 same-length c = search needs
 
 returns : tie.Need-returns
 returns c =
-    let i = c .before .before in let w = i .before .before .before .before in let o = w .before .before .before in let n = o .before in let s = n .before .before .before in
+    let n = c .before .before in let i = n .before in let w = i .before .before .before .before in let o = w .before .before .before in let x = o .before in let s = x .before .before .before in
     logged-made (getD (now (s .args .variables)) (operand (now (s .args .code)) (s .args .at)) 0 ∷ []) _ (rw (o .operand-at .ensures .0) at (w .record-variable .ensures)) (i .if1 .taken) refl
-    (next-here (s .pre .0) (n .next-of .ensures)) (rw (o .operand-at .ensures .0) at (c .replace .ensures .1)) refl (c .replace .ensures .2)
+    (next-here (s .pre .0) (x .next-of .ensures)) (rw (o .operand-at .ensures .0, needed-here (s .pre .0) (n .needed-of .ensures)) at (c .replace .ensures .1)) refl (c .replace .ensures .2)
 
 same-length-2 : tie.Need-same-length-2
 same-length-2 c = search needs
@@ -58,6 +63,7 @@ do-tracev-spec =
     element-copy-out-value
     cast-record-variable
     record-variable-requires
+    needed-of-requires
     replace-requires
     same-length
     returns
