@@ -14,7 +14,7 @@ use Rattle.encoding.proofs.Promises.{cases, and-left, and-right}
 use Rattle.report.specs.Hex.{pairOf}
 use Rattle.report.specs.Refusals.{refusals, refusalOf}
 use Rattle.report.specs.Text.{bytesOf, Appends}
-use Rattle.report.proofs.Promises.{text-start}
+use Rattle.report.proofs.Promises.{text-of}
 use Rattle.isa.specs.Classes.{classOf, kind, kind-unknown, kind-unsupported}
 use Rattle.isa.specs.Decode.{next}
 use Rattle.isa.specs.Starts.{startsFrom}
@@ -262,6 +262,6 @@ module _ (e : List ℕ) (low : (j : ℕ) → getD e j 0 < 256) (size : length e 
       → take n b' ≡ answerText e (verdict e) hs listed
   answer-whole b b' n h p =
       let l = answerText e (verdict e) hs listed in
-      let t = p [] (text-start b) in
+      let t = text-of p in
       let s : n ≡ length l = cases n (length b') (λ g. t .all g) (λ g. omega (arith, t .most, answer-length)) in
       t .same ∙ take-all n l (omega (arith, s))
