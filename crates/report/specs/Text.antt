@@ -14,8 +14,9 @@ pub record Text (b : List ℕ) (n : ℕ) (l : List ℕ) : Type 0 where
   pub all : n < length b → n ≡ length l
   pub same : take n b ≡ take n l
 
--- from the buffer b, whose text ends at n, to the buffer b', whose text ends at n', the bytes s are appended to the text: they stand from n on, as far as
--- the buffer goes, and every other byte is as it was; the text ends behind them, or where the buffer ends
+-- from the buffer b, whose text ends at n, to the buffer b', whose text ends at n', the bytes s are appended to the
+-- text: they stand from n on, as far as the buffer goes, and every other byte is as it was; the text then ends behind
+-- them, or where the buffer ends
 pub record Appends (b : List ℕ) (n : ℕ) (s b' : List ℕ) (n' : ℕ) : Type 0 where
   pub bytes : b' ≡ writtenAt b n s
   pub ends : n' ≡ min (length b) (n + length s)

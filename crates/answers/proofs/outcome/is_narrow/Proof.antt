@@ -17,7 +17,10 @@ append-completed-by-requires : tie.Need-append-completed-by-requires
 append-completed-by-requires c κs = search needs
 
 returns : tie.Need-returns
-returns c = let a = c .before .before .before .before .args in let w = c .before .append-completed-by in narrow-by (answerOf (a .value)) (a .steps) (w .last .0) (w .result) (text-of (w .ensures .1)) (omega (arith, w .kept .0))
+returns c =
+    let a = c .before .before .before .before .args in
+    let w = c .before .append-completed-by in
+    narrow-by (answerOf (a .value)) (a .steps) (w .last .0) (w .result) (text-of (w .ensures .1)) (omega (arith, w .kept .0))
 
 pub is-narrow-spec : {M : Type 1} → statement M
 is-narrow-spec =

@@ -32,7 +32,13 @@ loop-less : tie.Need-loop-less Inv-loop μ-loop
 loop-less c = search needs
 
 loop-again : tie.Need-loop-again Inv-loop μ-loop
-loop-again c = let a = c .before .before .append-cell in let l = now (c .before .before .before .before .before .before .before .before .before .args .bytes) in let i = c .before .before .before .before .before .loop .i in going-part (c .before .before .before .before .before .loop .inv) (cell (drop i l)) (column (16 - (i + 1)) (drop (i + 1) l)) (cells-part l i (c .before .before .before .before .loop-test .taken)) (a .last .0) (a .result) (a .kept .0) (a .ensures)
+loop-again c =
+    let a = c .before .before .append-cell in
+    let l = now (c .before .before .before .before .before .before .before .before .before .args .bytes) in
+    let turn = c .before .before .before .before in
+    let i = turn .before .loop .i in
+    going-part (turn .before .loop .inv) (cell (drop i l)) (column (16 - (i + 1)) (drop (i + 1) l)) (cells-part l i (turn .loop-test .taken))
+    (a .last .0) (a .result) (a .kept .0) (a .ensures)
 
 same-length : tie.Need-same-length Inv-loop μ-loop
 same-length c = c .before .loop .inv .size

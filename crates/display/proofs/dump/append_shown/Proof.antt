@@ -42,7 +42,14 @@ loop-less : tie.Need-loop-less Inv-loop μ-loop
 loop-less c = search needs
 
 loop-again : tie.Need-loop-again Inv-loop μ-loop
-loop-again c = let a = c .before .before .append in let l = now (c .before .before .before .before .before .before .before .before .before .before .before .before .args .bytes) in let i = c .before .before .before .before .before .before .before .before .loop .i in let s = c .before .before .before .before .before .shown-byte in going-part (c .before .before .before .before .before .before .before .before .loop .inv) (s .result ∷ []) (shown (drop (i + 1) l)) (shown-part l i (c .before .before .before .before .before .before .before .loop-test .taken) _ (s .ensures)) (a .last .0) (a .result) (a .kept .0) (a .ensures .1)
+loop-again c =
+    let a = c .before .before .append in
+    let l = now (c .before .before .before .before .before .before .before .before .before .before .before .before .args .bytes) in
+    let turn = c .before .before .before .before .before .before .before in
+    let i = turn .before .loop .i in
+    let s = c .before .before .before .before .before .shown-byte in
+    going-part (turn .before .loop .inv) (s .result ∷ []) (shown (drop (i + 1) l)) (shown-part l i (turn .loop-test .taken) _ (s .ensures))
+    (a .last .0) (a .result) (a .kept .0) (a .ensures .1)
 
 same-length : tie.Need-same-length Inv-loop μ-loop
 same-length c = c .before .loop .inv .size

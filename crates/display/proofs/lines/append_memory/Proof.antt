@@ -48,13 +48,14 @@ append-requires-4 c κs = search needs
 
 same-length : tie.Need-same-length
 same-length c =
+    let half = c .before .before .before .before .before .before .before .before .before .before .before .before .before .before .before .before .before in
     c .before .before .append4 .kept .0
     ∙ c .before .before .before .before .before .before .before .append-count .kept .0
     ∙ c .before .before .before .before .before .before .before .before .before .before .before .before .append3 .kept .0
-    ∙ c .before .before .before .before .before .before .before .before .before .before .before .before .before .before .before .before .before .append-address .kept .0
-    ∙ c .before .before .before .before .before .before .before .before .before .before .before .before .before .before .before .before .before .before .before .before .before .append2 .kept .0
-    ∙ c .before .before .before .before .before .before .before .before .before .before .before .before .before .before .before .before .before .before .before .before .before .before .before .before .before .before .append-number .kept .0
-    ∙ c .before .before .before .before .before .before .before .before .before .before .before .before .before .before .before .before .before .before .before .before .before .before .before .before .before .before .before .before .before .before .append .kept .0
+    ∙ half .append-address .kept .0
+    ∙ half .before .before .before .before .append2 .kept .0
+    ∙ half .before .before .before .before .before .before .before .before .before .append-number .kept .0
+    ∙ half .before .before .before .before .before .before .before .before .before .before .before .before .before .append .kept .0
 
 returns : tie.Need-returns
 unfolding memoryText

@@ -33,7 +33,10 @@ same-length : tie.Need-same-length
 same-length c = search needs
 
 returns : tie.Need-returns
-returns c = let a = c .before .before .before .before .before .before .before .before .before .before .args in let q = row-name (now (a .names)) (a .opcode) (c .before .before .before .before .before .before .before .before .before .before .pre .0) (c .before .before .before .before .before .before .before .before .before .before .pre .1) _ (c .before .before .before .before .before .before .word-length .ensures .0) in let p = c .before .before .append in appends-same _ _ q (p .ensures .1)
+returns c =
+    let s = c .before .before .before .before .before .before .before .before .before .before in
+    let q = row-name (now (s .args .names)) (s .args .opcode) (s .pre .0) (s .pre .1) _ (c .before .before .before .before .before .before .word-length .ensures .0) in
+    appends-same _ _ q (c .before .before .append .ensures .1)
 
 pub append-from-spec : {M : Type 1} → statement M
 append-from-spec =

@@ -17,7 +17,9 @@ same-length : tie.Need-same-length
 same-length c = search needs
 
 returns : tie.Need-returns
-returns c = let a = c .before .before .before .before .before .before .before .args in appends-same [] _ (operand-none (a .count) (a .value) (c .before .before .before .before .before .if1 .taken)) (c .before .before .append .ensures .1)
+returns c =
+    let a = c .before .before .before .before .before .before .before .args in
+    appends-same [] _ (operand-none (a .count) (a .value) (c .before .before .before .before .before .if1 .taken)) (c .before .before .append .ensures .1)
 
 slice-aggregate-append-2 : tie.Need-slice-aggregate-append-2
 slice-aggregate-append-2 c = search needs
@@ -32,7 +34,11 @@ same-length-2 : tie.Need-same-length-2
 same-length-2 c = search needs
 
 returns-2 : tie.Need-returns-2
-returns-2 c = let a = c .before .before .before .before .before .before .before .before .before .before .before .args in let s : List ℕ = 32 ∷ [] in appends-same (s ++ signed (a .value)) _ (operand-some (a .count) (a .value) (c .before .before .before .before .before .before .before .before .before .if1 .left)) (appends-then s (signed (a .value)) (c .before .before .before .before .before .before .append2 .ensures .1) (c .before .before .append-signed .ensures))
+returns-2 c =
+    let a = c .before .before .before .before .before .before .before .before .before .before .before .args in
+    let s : List ℕ = 32 ∷ [] in
+    appends-same (s ++ signed (a .value)) _ (operand-some (a .count) (a .value) (c .before .before .before .before .before .before .before .before .before .if1 .left))
+    (appends-then s (signed (a .value)) (c .before .before .before .before .before .before .append2 .ensures .1) (c .before .before .append-signed .ensures))
 
 pub append-operand-spec : {M : Type 1} → statement M
 append-operand-spec =
