@@ -12,6 +12,7 @@ use lib.ListN.{length, take, getD}
 use lib.Seq.{take-suc, take-all}
 use borrow.Author.Tests.{lt-ltb, le-ltb, ne-eqb}
 use Rattle.io.specs.Digits.{glyph}
+use Rattle.encoding.specs.Ranges.{AllBytes}
 use Rattle.report.specs.Hex.{isBlank, digitOf, afterHigh, tokenOf, whole, after, readFrom, pairOf, hexOf}
 use Rattle.report.specs.Text.{Appends}
 use Rattle.report.specs.declared.hex.Token.the-variants.{Byte}
@@ -109,7 +110,7 @@ pub pair-read : (p room b : ℕ) (s : List ℕ) → b < 256 → readFrom p (suc 
 unfolding readFrom
 pair-read p room b s h = rw (pair-back p b s h)
 
-pub hex-back : (p room : ℕ) (l : List ℕ) → ((j : ℕ) → getD l j 0 < 256) → length l ≤ room → readFrom p room (hexOf l) ≡ record { bytes = l; end = whole }
+pub hex-back : (p room : ℕ) (l : List ℕ) → AllBytes l → length l ≤ room → readFrom p room (hexOf l) ≡ record { bytes = l; end = whole }
 unfolding hexOf
 hex-back p room [] low h = nothing-read p room
 hex-back p zero (b ∷ l) low h = absurd (omega (arith, h))

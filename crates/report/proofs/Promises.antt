@@ -3,7 +3,8 @@ use Prim.Native.Nat.{ℕ, suc, _+_, _*_, _≤_, _<_}
 use mathlib.Core.Bool.{true}
 use mathlib.Core.List.{List, [], _∷_, _++_}
 use mathlib.Core.Path.{_≡_, refl, _∙_}
-use lib.ListN.{length, drop, getD}
+use lib.ListN.{length, drop}
+use Rattle.encoding.specs.Ranges.{AllBytes}
 use Rattle.report.specs.Hex.{allLower, whole, after, readFrom, readingOf, pairOf, hexOf}
 use Rattle.report.specs.Text.{Text, Appends}
 use Rattle.report.proofs.Appending as appending
@@ -11,8 +12,11 @@ use Rattle.report.proofs.HexWriting as writing
 use Rattle.report.proofs.HexInverse as inverse
 use Rattle.report.proofs.Lists as lists
 
+-- `AllBytes` holds of every slice of bytes that is lent: the contract of `encoding::bytes_known`, `lent-bytes` on the
+-- page of `frames`.
+
 -- bytes written in hexadecimal are read back, where there is room for them
-pub hex-read-back : (l : List ℕ) (room : ℕ) → ((j : ℕ) → getD l j 0 < 256) → length l ≤ room → readingOf (hexOf l) room ≡ record { bytes = l; end = whole }
+pub hex-read-back : (l : List ℕ) (room : ℕ) → AllBytes l → length l ≤ room → readingOf (hexOf l) room ≡ record { bytes = l; end = whole }
 hex-read-back l room low h = writing.hex-back 0 room l low h
 
 -- a text of 2 n lower-case digits is read whole, where there is room for n bytes, and the bytes that were read are written as the same text
