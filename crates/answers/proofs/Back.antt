@@ -8,6 +8,7 @@ use mathlib.Core.Path.{_≡_, refl, sym, ap, _∙_}
 use lib.Dec.{eqb}
 use lib.ListN.{length, take, drop, getD, replicate, drop-of-length-le}
 use borrow.Author.Tests.{eq-eqb, ne-eqb, lt-ltb, le-ltb, le-leb}
+use Rattle.encoding.specs.Ranges.{AllBytes}
 use Rattle.encoding.proofs.Promises.{cases}
 use Rattle.io.specs.Digits.{glyph}
 use Rattle.report.specs.Hex.{hexOf}
@@ -120,7 +121,7 @@ silent-lines i (suc n) l =
     silent-chosen i (eqb (length l) 0) [] (bytesLine (take 40 l) ++ r) (silent-none i) (silent-line i (take 40 l) r (silent-lines i n (drop 40 l)))
 
 -- ---- the rows from offset i on, and then a text t that says nothing
-module _ (e : List ℕ) (low : (j : ℕ) → getD e j 0 < 256) (a : Acceptable e) (hs t : List ℕ) (silent : Silent (length e) t) where
+module _ (e : List ℕ) (low : AllBytes e) (a : Acceptable e) (hs t : List ℕ) (silent : Silent (length e) t) where
   abbrev Back : ℕ → Type 0
   Back i = i ≤ length e → (i < length e → isStart e i ≡ true) → (m : ℕ) → readLines m i (linesOf (rowsFrom e hs true i ++ t)) ≡ bytes (drop i e)
 
@@ -157,7 +158,7 @@ module _ (e : List ℕ) (low : (j : ℕ) → getD e j 0 < 256) (a : Acceptable e
   rows-back = by-starts e Back back-end back-next
 
 -- ---- the whole answer
-module _ (e : List ℕ) (low : (j : ℕ) → getD e j 0 < 256) {n g l : ℕ} (q : verdict e ≡ accepted n g l) (hs : List ℕ) where
+module _ (e : List ℕ) (low : AllBytes e) {n g l : ℕ} (q : verdict e ≡ accepted n g l) (hs : List ℕ) where
   -- and then a text t that says nothing
   answer-then : (t : List ℕ) → Silent (length e) t → readText (answerText e (accepted n g l) hs true ++ t) ≡ bytes e
   unfolding readText verdictText answerText

@@ -3,12 +3,13 @@ use Prim.Native.Nat.{ℕ, _+_, _*_, _/_, _^_, _≤_, _<_}
 use mathlib.Core.Bool.{Bool, true, false}
 use mathlib.Core.List.{List, _++_}
 use mathlib.Core.Path.{_≡_}
-use lib.ListN.{length, take, getD}
+use lib.ListN.{length, take}
 use Rattle.report.specs.Text.{bytesOf, Appends}
 use Rattle.verifier.specs.Verdict.{accepted, verdict}
 use Rattle.listing.specs.Listing.{bytes, readText}
 use Rattle.heights.specs.Arrivals.{ArrivalsBy}
 use Rattle.machine.specs.Machine.{Answer}
+use Rattle.encoding.specs.Ranges.{AllBytes}
 use Rattle.answers.specs.Bytes.{bytesText}
 use Rattle.answers.specs.Listed.{answerText}
 use Rattle.answers.specs.Outcome.{isNarrow, completedText, IsWords}
@@ -25,8 +26,11 @@ pub wide-lines : (a : Answer) (n : ℕ) → isNarrow a n ≡ false → IsWords a
     → (l : List ℕ) × (m : List ℕ) × (completedText a n ≡ l ++ bytesOf "\n" ++ m ++ bytesOf "\n") × (length l ≤ 100) × (length m ≤ 100)
 wide-lines = columns.two-lines
 
+-- `AllBytes` holds of every slice of bytes that is lent: the contract of `encoding::bytes_known`, `lent-bytes` on the
+-- page of `frames`.
+
 -- ---- the whole answer of `verify` on bytes e: a buffer of 98,304 bytes has room for it, and holds it whole
-module _ (e : List ℕ) (low : (j : ℕ) → getD e j 0 < 256) (size : length e < 2 ^ 64) (hs : List ℕ) (r : ArrivalsBy e (verdict e) hs) (listed : Bool) where
+module _ (e : List ℕ) (low : AllBytes e) (size : length e < 2 ^ 64) (hs : List ℕ) (r : ArrivalsBy e (verdict e) hs) (listed : Bool) where
   pub answer-length : length (answerText e (verdict e) hs listed) ≤ 98304
   answer-length = sizes.answer-length e low size hs r listed
 
@@ -39,7 +43,7 @@ pub bytes-length : (e : List ℕ) → length (bytesText e) ≡ 2 * length e + 7 
 bytes-length = lines.bytes-length
 
 -- ---- what `verify --list` prints of an accepted expression is read back as its bytes, whatever heights stand beside the instructions
-module _ (e : List ℕ) (low : (j : ℕ) → getD e j 0 < 256) {n g l : ℕ} (q : verdict e ≡ accepted n g l) (hs : List ℕ) where
+module _ (e : List ℕ) (low : AllBytes e) {n g l : ℕ} (q : verdict e ≡ accepted n g l) (hs : List ℕ) where
   pub answer-read-back : readText (answerText e (accepted n g l) hs true) ≡ bytes e
   answer-read-back = back.answer-back e low q hs
 

@@ -10,6 +10,7 @@ use lib.Dec.{ltb}
 use lib.ListN.{length, take, drop, getD, replicate, length-replicate, replicate-append-replicate}
 use lib.Seq.{take-all, drop-at}
 use borrow.Author.Tests.{lt-ltb, le-ltb, le-leb, ltb-true}
+use Rattle.encoding.specs.Ranges.{AllBytes}
 use Rattle.encoding.specs.Written.{writtenAt}
 use Rattle.encoding.proofs.Promises.{no-true, cases, written-read}
 use Rattle.report.specs.Text.{bytesOf}
@@ -59,7 +60,7 @@ module _ (e : List ℕ) (a : Bool) (h k : ℕ) where
   row-refused q = rw q
 
 -- what `write_instruction` leaves in a buffer of 64 bytes
-module _ (e : List ℕ) (low : (j : ℕ) → getD e j 0 < 256) (k : ℕ) (h : k < 2 ^ 64) (i : isInstruction e k ≡ true) (o : List ℕ) (room : length o ≡ 64) where
+module _ (e : List ℕ) (low : AllBytes e) (k : ℕ) (h : k < 2 ^ 64) (i : isInstruction e k ≡ true) (o : List ℕ) (room : length o ≡ 64) where
   pub written-whole : writtenAnswer e k o ≡ Text (length (textAt e k))
   unfolding writtenAnswer
   written-whole = rw (i, le-leb (length (textAt e k)) (length o) (omega (arith, text-length e low k h, room)))

@@ -10,11 +10,12 @@ use lib.Dec.{T, leb, eqb, leb→le}
 use lib.ListN.{length, take, getD, replicate, length-append, length-replicate, getD-replicate, List·getD-eq-default}
 use lib.Seq.{take-all, length-take-le}
 use borrow.Author.Tests.{lt-ltb, le-ltb}
+use Rattle.encoding.specs.Ranges.{AllBytes}
 use Rattle.encoding.proofs.Promises.{cases, and-left, and-right}
 use Rattle.report.specs.Hex.{pairOf}
 use Rattle.report.specs.Refusals.{refusals, refusalOf}
 use Rattle.report.specs.Text.{bytesOf, Appends}
-use Rattle.report.proofs.Promises.{text-start}
+use Rattle.report.proofs.Promises.{text-of}
 use Rattle.isa.specs.Classes.{classOf, kind, kind-unknown, kind-unsupported}
 use Rattle.isa.specs.Decode.{next}
 use Rattle.isa.specs.Starts.{startsFrom}
@@ -65,7 +66,7 @@ opcode-length op =
     (omega (arith, bracketed (knownName op), known-length op))
 
 -- ---- the verdict
-module _ (e : List ℕ) (low : (j : ℕ) → getD e j 0 < 256) where
+module _ (e : List ℕ) (low : AllBytes e) where
   instruction-length : (r k : ℕ) → k < 2 ^ 64 → length (instructionOf e r k) ≤ 66
   unfolding thereText instructionOf
   instruction-length r k h =
@@ -100,7 +101,7 @@ refused-at-length r k h g =
       length-append b (decimal k),
     )
 
-refused-length : (e : List ℕ) → ((j : ℕ) → getD e j 0 < 256) → (r k : ℕ) → r < 2 ^ 64 → k < 2 ^ 64 → length (refusedLine e r k) ≤ 176
+refused-length : (e : List ℕ) → AllBytes e → (r k : ℕ) → r < 2 ^ 64 → k < 2 ^ 64 → length (refusedLine e r k) ≤ 176
 unfolding refusedLine
 refused-length e low r k h g =
     let a = refusedAt r k ++ instructionOf e r k in
@@ -167,7 +168,7 @@ module _ (e : List ℕ) {k : ℕ} where
   refused-inside (of-pass2 z d x) = omega (arith, start-in e k (x .start))
   refused-inside (of-pass3 z d t b o f) = shown-inside (b .1)
 
-module _ (e : List ℕ) (low : (j : ℕ) → getD e j 0 < 256) (size : length e < 2 ^ 64) where
+module _ (e : List ℕ) (low : AllBytes e) (size : length e < 2 ^ 64) where
   verdict-length : (v : Verdict) → verdict e ≡ v → length (verdictText e v) ≤ 176
   unfolding verdictText
   verdict-length (accepted n g l) q =
@@ -202,7 +203,7 @@ beside-length l h s b =
     )
 
 -- the rows: one an offset at most, of the 1,024
-module _ (e : List ℕ) (low : (j : ℕ) → getD e j 0 < 256) (hs : List ℕ) (cells : (j : ℕ) → getD hs j 0 ≤ unreached) (a : Bool) where
+module _ (e : List ℕ) (low : AllBytes e) (hs : List ℕ) (cells : (j : ℕ) → getD hs j 0 ≤ unreached) (a : Bool) where
   row-length : (k : ℕ) → k < 2 ^ 64 → length (rowText e a (getD hs k 0) k) ≤ 93
   unfolding rowText
   row-length k h =
@@ -238,7 +239,7 @@ cells-low e (refused n k) q hs r j =
     (λ h. omega (arith, getD-replicate {A = ℕ} 1024 j unreached 0 h))
     (λ h. let o : length (replicate 1024 unreached) ≤ j = omega (arith, length-replicate {A = ℕ} 1024 unreached) in omega (arith, List·getD-eq-default (replicate 1024 unreached) 0 o)))
 
-module _ (e : List ℕ) (low : (j : ℕ) → getD e j 0 < 256) (size : length e < 2 ^ 64) (hs : List ℕ) (r : ArrivalsBy e (verdict e) hs) (listed : Bool) where
+module _ (e : List ℕ) (low : AllBytes e) (size : length e < 2 ^ 64) (hs : List ℕ) (r : ArrivalsBy e (verdict e) hs) (listed : Bool) where
   pub answer-length : length (answerText e (verdict e) hs listed) ≤ 98304
   unfolding answerText
   answer-length =
@@ -253,6 +254,6 @@ module _ (e : List ℕ) (low : (j : ℕ) → getD e j 0 < 256) (size : length e 
       → take n b' ≡ answerText e (verdict e) hs listed
   answer-whole b b' n h p =
       let l = answerText e (verdict e) hs listed in
-      let t = p [] (text-start b) in
+      let t = text-of p in
       let s : n ≡ length l = cases n (length b') (λ g. t .all g) (λ g. omega (arith, t .most, answer-length)) in
       t .same ∙ take-all n l (omega (arith, s))

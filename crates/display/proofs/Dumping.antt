@@ -7,6 +7,7 @@ use mathlib.Core.Path.{_≡_, refl, sym, ap, _∙_}
 use lib.ListN.{length, take, drop, getD, length-append, length-take}
 use lib.Seq.{take-all, take-nil, take-take, take-at, drop-at, drop-cons, drop-drop}
 use borrow.Author.Tests.{lt-ltb, le-ltb, le-leb, lt-leb}
+use Rattle.encoding.specs.Ranges.{AllBytes}
 use Rattle.encoding.proofs.Promises.{cases}
 use Rattle.io.specs.Digits.{digits}
 use Rattle.report.specs.Hex.{whole, after, readFrom, pairOf}
@@ -103,7 +104,7 @@ unfolding dumpText
 dump-past l t a n p o h = rw (le-ltb o n h)
 
 -- ---- what the column shows is read back
-pub column-back : (p room n : ℕ) (l : List ℕ) → ((j : ℕ) → getD l j 0 < 256) → length l ≤ n → length l ≤ room
+pub column-back : (p room n : ℕ) (l : List ℕ) → AllBytes l → length l ≤ n → length l ≤ room
     → readFrom p room (column n l) ≡ record { bytes = l; end = whole }
 unfolding column
 column-back p room zero [] low h g = nothing-read p room

@@ -2,9 +2,10 @@
 use Prim.Native.Nat.{ℕ, _+_, _%_, _^_, _≤_, _<_}
 use mathlib.Core.List.{List, _∷_, _++_}
 use mathlib.Core.Path.{_≡_, ap, _∙_}
-use lib.ListN.{length, take, drop, getD}
+use lib.ListN.{length, take, drop}
 use borrow.Author.Tests.{lt-ltb}
 use Rattle.report.specs.Hex.{whole, readingOf}
+use Rattle.encoding.specs.Ranges.{AllBytes}
 use Rattle.encoding.specs.Written.{writtenAt}
 use Rattle.frames.specs.Record.{Record, memory, AllWellFormed}
 use Rattle.frames.specs.Frame.{encodeFrame}
@@ -13,8 +14,11 @@ use Rattle.reader.proofs.Promises.{newest-record, newest-bytes}
 use Rattle.display.specs.Dump.{dumpLine, dumpText}
 use Rattle.display.proofs.Dumping as dumping
 
+-- `AllBytes` holds of every slice of bytes that is lent: the contract of `encoding::bytes_known`, `lent-bytes` on the
+-- page of `frames`.
+
 -- characters 21 to 68 of a dump line are its hexadecimal column; read back, they are the bytes of the line
-pub line-read-back : (address : ℕ) (l : List ℕ) (room : ℕ) → ((j : ℕ) → getD l j 0 < 256) → length l ≤ 16 → length l ≤ room
+pub line-read-back : (address : ℕ) (l : List ℕ) (room : ℕ) → AllBytes l → length l ≤ 16 → length l ≤ room
     → readingOf (take 48 (drop 21 (dumpLine address l))) room ≡ record { bytes = l; end = whole }
 line-read-back address l room low h g = ap (λ (m : List ℕ). readingOf m room) (dumping.column-in-line address l) ∙ dumping.column-back 0 room 16 l low h g
 

@@ -25,6 +25,9 @@ fn append_cell(out: &mut [u8], at: usize, bytes: &[u8], i: usize) -> usize
 fn append_column(out: &mut [u8], at: usize, bytes: &[u8]) -> usize
     ensures { λ r. ⌜ Appends (now (out .entry)) at (column 16 (now (bytes .entry))) (now (out .exit)) r ⌝ }
 {
+    if out.len() < at {
+        return out.len();
+    }
     let mut n = at;
     let mut i = 0;
     while i < 16 {
@@ -49,6 +52,9 @@ fn shown_byte(byte: u8) -> u8
 fn append_shown(out: &mut [u8], at: usize, bytes: &[u8]) -> usize
     ensures { λ r. ⌜ Appends (now (out .entry)) at (shown (now (bytes .entry))) (now (out .exit)) r ⌝ }
 {
+    if out.len() < at {
+        return out.len();
+    }
     let mut n = at;
     let mut i = 0;
     while i < bytes.len() {

@@ -124,6 +124,17 @@ module _ (l : List ℕ) (a : ℕ) where
   pub written-form : (e : List ℕ) → a + length e ≤ length l → writtenAt l a e ≡ take a l ++ (e ++ drop (a + length e) l)
   written-form = writing.written-form l a
 
+  -- up to n, which is not behind e: what stood before a, and e
+  pub written-upto : (e : List ℕ) (n : ℕ) → n ≤ length l → n ≤ a + length e → take n (writtenAt l a e) ≡ take n (take a l ++ e)
+  written-upto = writing.written-upto l a
+
+  -- behind e every byte is as before; behind the end of l nothing is written
+  pub written-behind : (e : List ℕ) (n : ℕ) → a + length e ≤ n → drop n (writtenAt l a e) ≡ drop n l
+  written-behind = writing.written-behind l a
+
+  pub written-past : (e : List ℕ) → length l ≤ a → writtenAt l a e ≡ l
+  written-past = writing.written-past l a
+
   -- the bytes written are read back
   pub written-read : (e : List ℕ) → a + length e ≤ length l → take (length e) (drop a (writtenAt l a e)) ≡ e
   written-read = writing.written-read l a

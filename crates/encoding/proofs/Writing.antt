@@ -62,6 +62,32 @@ written-store (x ∷ l) (suc a) v = ap (λ r. x ∷ r) (written-store l a v)
 pub written-snoc : (l : List ℕ) (a n : ℕ) (e : List ℕ) (v : ℕ) → length e ≡ n → set (writtenAt l a e) (a + n) v ≡ writtenAt l a (e ++ (v ∷ []))
 written-snoc l a n e v h = rw (← h, written-store, written-more)
 
+-- up to n, which is not behind e: what stood before a, and e
+pub written-upto : (l : List ℕ) (a : ℕ) (e : List ℕ) (n : ℕ) → n ≤ length l → n ≤ a + length e → take n (writtenAt l a e) ≡ take n (take a l ++ e)
+unfolding writtenAt
+written-upto l a e zero g h = refl
+written-upto [] a e (suc n) g h = absurd (omega arith)
+written-upto (x ∷ l) zero [] (suc n) g h = absurd (omega arith)
+written-upto (x ∷ l) zero (b ∷ e) (suc n) g h = ap (λ r. b ∷ r) (written-upto l zero e n (omega arith) (omega arith))
+written-upto (x ∷ l) (suc a) e (suc n) g h = ap (λ r. x ∷ r) (written-upto l a e n (omega arith) (omega arith))
+
+-- behind e every byte is as before
+pub written-behind : (l : List ℕ) (a : ℕ) (e : List ℕ) (n : ℕ) → a + length e ≤ n → drop n (writtenAt l a e) ≡ drop n l
+unfolding writtenAt
+written-behind [] a e n h = refl
+written-behind (x ∷ l) zero [] n h = refl
+written-behind (x ∷ l) zero (b ∷ e) zero h = absurd (omega arith)
+written-behind (x ∷ l) zero (b ∷ e) (suc n) h = written-behind l zero e n (omega arith)
+written-behind (x ∷ l) (suc a) e zero h = absurd (omega arith)
+written-behind (x ∷ l) (suc a) e (suc n) h = written-behind l a e n (omega arith)
+
+-- nothing is written behind the end
+pub written-past : (l : List ℕ) (a : ℕ) (e : List ℕ) → length l ≤ a → writtenAt l a e ≡ l
+unfolding writtenAt
+written-past [] a e h = refl
+written-past (x ∷ l) zero e h = absurd (omega arith)
+written-past (x ∷ l) (suc a) e h = ap (λ r. x ∷ r) (written-past l a e (omega arith))
+
 -- the form with take and drop
 pub written-form : (l : List ℕ) (a : ℕ) (e : List ℕ) → a + length e ≤ length l → writtenAt l a e ≡ take a l ++ (e ++ drop (a + length e) l)
 unfolding writtenAt

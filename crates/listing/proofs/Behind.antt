@@ -10,6 +10,7 @@ use lib.Seq.{take-at}
 use Rattle.isa.specs.Decode.{operandBytes, operand, next}
 use Rattle.report.proofs.Promises.{append-assoc}
 use Rattle.words.proofs.Promises.{all, all-append}
+use Rattle.encoding.specs.Ranges.{AllBytes}
 use Rattle.listing.specs.Numbers.{decimal}
 use Rattle.listing.specs.Text.{textAt}
 use Rattle.listing.specs.Meant.{isHeading, isNot, meant}
@@ -38,7 +39,7 @@ heading-then l f t m i r b g =
     ap (readLines m i) (line-divided l r f) ∙ rw t (ap (λ (j : ℕ). afterBytes [] (readLines (m + 1) j (linesOf r))) z ∙ ap (afterBytes []) g)
 
 -- ---- the text of the instruction at k without its line feed, n spaces and a comment, and then the text r
-module _ (e : List ℕ) (low : (j : ℕ) → getD e j 0 < 256) (k : ℕ) (h : k < 2 ^ 64) (i : Instructed e k) where
+module _ (e : List ℕ) (low : AllBytes e) (k : ℕ) (h : k < 2 ^ 64) (i : Instructed e k) where
   abbrev row : List ℕ
   row = rowText k (getD e k 0) (operandBytes e k) (operand e k)
 

@@ -7,6 +7,7 @@ use mathlib.Core.Path.{_≡_, refl, sym, ap, _∙_}
 use lib.Arith.{digits-div, digits-mod}
 use lib.ListN.{length, take, drop, set, getD, length-append, length-set, length-drop}
 use lib.Seq.{take-suc, getD-drop}
+use Rattle.encoding.specs.Ranges.{AllBytes}
 use Rattle.encoding.specs.BigEndian.{bigEndian}
 use Rattle.encoding.specs.Written.{writtenAt}
 use Rattle.encoding.proofs.Promises.{written-nothing}
@@ -18,7 +19,7 @@ unfolding bigBytes
 length-big zero v = refl
 length-big (suc n) v = rw (length-append, length-big n) (add-one n)
 
-pub bytes-of-big : (e : List ℕ) (i n : ℕ) → ((j : ℕ) → getD e j 0 < 256) → i + n ≤ length e → bigBytes n (bigEndian e i n) ≡ take n (drop i e)
+pub bytes-of-big : (e : List ℕ) (i n : ℕ) → AllBytes e → i + n ≤ length e → bigBytes n (bigEndian e i n) ≡ take n (drop i e)
 unfolding bigBytes bigEndian
 bytes-of-big e i zero b h = refl
 bytes-of-big e i (suc n) b h =

@@ -10,6 +10,7 @@ use lib.Dec.{T, eqb, lit<}
 use lib.ListN.{length, take, drop, getD, replicate, length-append, take-append-drop, drop-of-length-le}
 use lib.Seq.{drop-cons, drop-drop, take-append-seam, take-at}
 use borrow.Author.Tests.{eq-eqb, ne-eqb, lt-ltb, not-true}
+use Rattle.encoding.specs.Ranges.{AllBytes}
 use Rattle.encoding.proofs.Promises.{cases, and-left, and-right, big-below}
 use Rattle.report.specs.Hex.{isBlank}
 use Rattle.isa.specs.Decode.{operandBytes, operand, next}
@@ -296,7 +297,7 @@ pub word-low : (op v : ℕ) → v < 256 ^ operandsOf op → v < 2 ^ 64
 word-low op v h = omega (arith, h, pow-le-pow-right (lit< {m = 0} {n = 256} tt) (operands-most op))
 
 -- ---- an instruction of an expression e, whose bytes are below 256
-module _ (e : List ℕ) (low : (j : ℕ) → getD e j 0 < 256) where
+module _ (e : List ℕ) (low : AllBytes e) where
   module _ (k : ℕ) (i : Instructed e k) where
     pub operand-below : operand e k < 256 ^ operandBytes e k
     unfolding operand

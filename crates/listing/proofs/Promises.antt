@@ -4,10 +4,11 @@ use mathlib.Core.List.{List, [], _∷_, _++_}
 use mathlib.Core.Path.{_≡_, refl, sym, ap, _∙_}
 use Prim.Native.Nat.{ℕ, _+_, _-_, _^_, _≤_, _<_}
 use lib.Dec.{T}
-use lib.ListN.{length, take, drop, getD, replicate}
+use lib.ListN.{length, take, drop, replicate}
 use Rattle.io.specs.Digits.{digits, Fewest}
 use Rattle.report.specs.Hex.{isBlank}
 use Rattle.report.specs.Text.{Appends}
+use Rattle.encoding.specs.Ranges.{AllBytes}
 use Rattle.encoding.specs.Written.{writtenAt}
 use Rattle.isa.specs.Classes.{kind, classOf, kind-unsupported}
 use Rattle.isa.specs.Decode.{operandBytes, next}
@@ -44,18 +45,21 @@ pub row-read-back : (at op v : ℕ) → at < 2 ^ 64 → kind-unsupported < kind 
     → (n : ℕ) (t : List ℕ) → meant at (a ++ (replicate n 32 ++ (35 ∷ t))) ≡ Instruction op (operandsOf op) v
 row-read-back at op v h s f = inverse.comment-back op (operandsOf op) v (opcodes.good-name op s) refl (inverse.word-low op v f) f at h
 
+-- `AllBytes` holds of every slice of bytes that is lent: the contract of `encoding::bytes_known`, `lent-bytes` on the
+-- page of `frames`.
+
 -- the text of an instruction of an expression is read back as its bytes
-pub instruction-read-back : (e : List ℕ) → ((j : ℕ) → getD e j 0 < 256) → (k : ℕ) → k < 2 ^ 64 → isInstruction e k ≡ true
+pub instruction-read-back : (e : List ℕ) → AllBytes e → (k : ℕ) → k < 2 ^ 64 → isInstruction e k ≡ true
     → lineBytes (readLine k (textAt e k)) ≡ take (1 + operandBytes e k) (drop k e)
 instruction-read-back e low k h i = ap lineBytes (inverse.instruction-back e low k (texting.instructed e k i) h) ∙ inverse.instruction-bytes e low k (texting.instructed e k i)
 
 -- and the listing of an expression as the expression
-pub listing-read-back : (e : List ℕ) → ((j : ℕ) → getD e j 0 < 256) → length e < 2 ^ 64 → T (allInstructions e (starts e)) → readLines 1 0 (listing e) ≡ bytes e
+pub listing-read-back : (e : List ℕ) → AllBytes e → length e < 2 ^ 64 → T (allInstructions e (starts e)) → readLines 1 0 (listing e) ≡ bytes e
 unfolding listing
 listing-read-back e low h t = inverse.listing-back e low 0 h t 1
 
 -- as one text
-pub listing-text-read-back : (e : List ℕ) → ((j : ℕ) → getD e j 0 < 256) → length e < 2 ^ 64 → T (allInstructions e (starts e)) → readText (listingText e) ≡ bytes e
+pub listing-text-read-back : (e : List ℕ) → AllBytes e → length e < 2 ^ 64 → T (allInstructions e (starts e)) → readText (listingText e) ≡ bytes e
 listing-text-read-back e low h t = inverse.text-back e low h t
 
 -- ---- a text read line by line
@@ -71,7 +75,7 @@ pub heading-then : (l : List ℕ) → Feedless l → isHeading (l ++ (10 ∷ [])
 heading-then = behind.heading-then
 
 -- the text of an instruction of an expression without its line feed, n spaces and a comment t, before the text r
-pub row-then : (e : List ℕ) → ((j : ℕ) → getD e j 0 < 256) → (k : ℕ) → k < 2 ^ 64 → isInstruction e k ≡ true
+pub row-then : (e : List ℕ) → AllBytes e → (k : ℕ) → k < 2 ^ 64 → isInstruction e k ≡ true
     → (n : ℕ) (t : List ℕ) → Feedless t → (m : ℕ) (r : List ℕ) → readLines (m + 1) (next e k) (linesOf r) ≡ bytes (drop (next e k) e)
     → readLines m k (linesOf (take (length (textAt e k) - 1) (textAt e k) ++ replicate n 32 ++ ((35 ∷ t) ++ (10 ∷ [])) ++ r)) ≡ bytes (drop k e)
 row-then e low k h i = behind.row-then e low k h (texting.instructed e k i)
@@ -95,10 +99,10 @@ instruction-inside e k i = texting.instructed e k i .inside
 pub text-some : (e : List ℕ) (k : ℕ) → 0 < length (textAt e k)
 text-some = texting.text-some
 
-pub text-length : (e : List ℕ) → ((j : ℕ) → getD e j 0 < 256) → (k : ℕ) → k < 2 ^ 64 → length (textAt e k) < 64
+pub text-length : (e : List ℕ) → AllBytes e → (k : ℕ) → k < 2 ^ 64 → length (textAt e k) < 64
 text-length = texting.text-length
 
-pub plain-length : (e : List ℕ) → ((j : ℕ) → getD e j 0 < 256) → (k : ℕ) → k < 2 ^ 64 → length (plainAt e k) < 64
+pub plain-length : (e : List ℕ) → AllBytes e → (k : ℕ) → k < 2 ^ 64 → length (plainAt e k) < 64
 plain-length = texting.plain-length
 
 pub name-length : (op : ℕ) → length (nameOf op) ≤ 13

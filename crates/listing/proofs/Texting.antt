@@ -11,6 +11,7 @@ use lib.Seq.{take-all}
 use borrow.Author.Tests.{eq-eqb, ne-eqb, lt-ltb, le-ltb, le-leb, lt-leb, ltb-true, leb-true}
 use Rattle.io.specs.Digits.{digits, Fewest}
 use Rattle.report.specs.Text.{Text, Appends}
+use Rattle.encoding.specs.Ranges.{AllBytes}
 use Rattle.encoding.specs.Written.{writtenAt}
 use Rattle.encoding.proofs.Promises.{big-below, written-length, no-true, cases}
 use Rattle.isa.specs.Classes.{kind-unsupported}
@@ -170,7 +171,7 @@ operand-length count v h =
     (λ g. omega (arith, ap length (operand-some count v (λ z. omega arith)), signed-length v h))
     (λ l. omega (arith, ap length (operand-none count v (omega arith))))
 
-pub text-length : (e : List ℕ) → ((j : ℕ) → getD e j 0 < 256) → (k : ℕ) → k < 2 ^ 64 → length (textAt e k) < 64
+pub text-length : (e : List ℕ) → AllBytes e → (k : ℕ) → k < 2 ^ 64 → length (textAt e k) < 64
 unfolding operand textAt textOf
 text-length e low k h =
     let p = pow-le-pow-right (lit< {m = 0} {n = 256} tt) (operands-most (getD e k 0)) in
@@ -195,7 +196,7 @@ text-parts-length e k =
 pub text-some : (e : List ℕ) (k : ℕ) → 0 < length (textAt e k)
 text-some e k = omega (arith, text-parts-length e k)
 
-pub plain-length : (e : List ℕ) → ((j : ℕ) → getD e j 0 < 256) → (k : ℕ) → k < 2 ^ 64 → length (plainAt e k) < 64
+pub plain-length : (e : List ℕ) → AllBytes e → (k : ℕ) → k < 2 ^ 64 → length (plainAt e k) < 64
 unfolding plainAt
 plain-length e low k h =
     elim (isInstruction e k) as (λ (b : Bool). length (cond b (namedAt e k) []) < 64) [

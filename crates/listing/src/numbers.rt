@@ -28,7 +28,7 @@ fn negative(number: Number) -> Number
 }
 
 // A word that is digits, with or without a minus in front.
-pub fn signed(word: &[u8]) -> Number
+pub(crate) fn signed(word: &[u8]) -> Number
     requires { ⌜ 0 < length (now word) ⌝ }
     ensures { λ r. ⌜ r ≡ signedOf (now (word .entry)) ⌝ }
 {
@@ -39,7 +39,7 @@ pub fn signed(word: &[u8]) -> Number
 }
 
 // Whether so many bytes can hold the value.
-pub fn fits(value: u64, count: usize) -> bool
+pub(crate) fn fits(value: u64, count: usize) -> bool
     requires { ⌜ T (isWidth count) ⌝ }
     ensures { λ r. ⌜ r ≡ ltb value (256 ^ count) ⌝ }
 {
@@ -52,7 +52,7 @@ pub fn fits(value: u64, count: usize) -> bool
 }
 
 // Writes the `count` bytes of `value` from `at` on, most significant byte first.
-pub fn put_big(out: &mut [u8], at: usize, value: u64, count: usize)
+pub(crate) fn put_big(out: &mut [u8], at: usize, value: u64, count: usize)
     requires { ⌜ at + count ≤ length (now out) ⌝ }
     ensures { λ _. ⌜ now (out .exit) ≡ writtenAt (now (out .entry)) at (bigBytes count value) ⌝ }
 {

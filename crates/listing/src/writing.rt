@@ -46,7 +46,7 @@ fn append_operand(out: &mut [u8], at: usize, count: usize, value: u64) -> usize
     ensures { λ r. ⌜ Appends (now (out .entry)) at (operandText count value) (now (out .exit)) r ⌝ }
 {
     if count == 0 {
-        return at;
+        return append(out, at, b"");
     }
     let behind = append(out, at, b" ");
     append_signed(out, behind, value)

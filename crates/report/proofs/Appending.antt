@@ -1,58 +1,95 @@
 -- Laws of text that grows in a buffer, for the proofs of the functions of `text`. Assumes nothing.
-use Prim.Native.Nat.{ℕ, suc, _≤_, _<_, _+_}
+use Prim.Native.Nat.{ℕ, _≤_, _<_, _+_, min}
 use Prim.Native.String.{String}
 use native.Mathlib.Omega.{arith}
 use native.Mathlib.Numerals.{add-one}
 use mathlib.Core.Path.{_≡_, refl, sym, ap, subst, _∙_}
 use mathlib.Core.List.{List, [], _∷_, _++_}
 use lib.ListN.{length, take, drop, set, getD, length-set, length-append, take-append-drop, List·getD-eq-default}
-use lib.Seq.{length-take-le, take-all, take-suc, take-suc-set, take-append-le}
+use lib.Seq.{length-take-le, take-all, take-suc, take-append-le}
 use Rattle.io.specs.Counts.{Counts}
+use Rattle.encoding.specs.Written.{writtenAt}
+use Rattle.encoding.proofs.Promises.{cases, written-length, written-nothing, written-more, written-store, written-upto, written-behind, written-past}
 use Rattle.report.specs.Text.{Text, Appends, bytesOf}
 use Rattle.report.specs.Refusals.{refusals, refusalOf}
-use Rattle.report.proofs.Lists.{append-nil, append-assoc}
+use Rattle.report.proofs.Lists.{drop-out}
 
 pub counts : (n : ℕ) (xs : List ℕ) → n ≤ length xs → Counts n xs
 counts n xs h = (h, sym (length-take-le n xs h))
 
 -- ---- appending s and then t is appending s ++ t
+pub appends-length : {b b' : List ℕ} {n n' : ℕ} {s : List ℕ} → Appends b n s b' n' → length b' ≡ length b
+appends-length {b} {n = n} {s = s} p = ap length (p .bytes) ∙ written-length b n s
+
+-- the text ends in the buffer
+pub appends-inside : {b b' : List ℕ} {n n' : ℕ} {s : List ℕ} → Appends b n s b' n' → n' ≤ length b'
+appends-inside p = omega (arith, p .ends, appends-length p)
+
+-- t written where the text ends, which may be the buffer's end, is t written behind s
+written-then : (b : List ℕ) (n : ℕ) (s t : List ℕ) → writtenAt (writtenAt b n s) (min (length b) (n + length s)) t ≡ writtenAt b n (s ++ t)
+written-then b n s t =
+    let c = writtenAt b n s in
+    let k = written-length b n s in
+    cases (n + length s) (length b)
+    (λ h. let e : min (length b) (n + length s) ≡ n + length s = omega (arith, h) in ap (λ (i : ℕ). writtenAt c i t) e ∙ written-more b n s t)
+    (λ h. written-past c (min (length b) (n + length s)) t (omega (arith, h, k)) ∙ sym (written-past c (n + length s) t (omega (arith, h, k))) ∙ written-more b n s t)
+
 pub appends-then : {b b' b'' : List ℕ} {n n' n'' : ℕ} (s t : List ℕ) → Appends b n s b' n' → Appends b' n' t b'' n'' → Appends b n (s ++ t) b'' n''
-appends-then {b'' = b''} {n'' = n''} s t p q l x = subst (Text b'' n'') (append-assoc l s t) (q (l ++ s) (p l x))
+appends-then {b} {n = n} {n'} s t p q = record {
+  bytes = q .bytes ∙ ap (λ (m : List ℕ). writtenAt m n' t) (p .bytes) ∙ ap (λ (i : ℕ). writtenAt (writtenAt b n s) i t) (p .ends) ∙ written-then b n s t;
+  ends = omega (arith, p .ends, q .ends, appends-length p, length-append s t);
+}
 
 pub appends-same : {b b' : List ℕ} {n n' : ℕ} (s t : List ℕ) → s ≡ t → Appends b n s b' n' → Appends b n t b' n'
-appends-same {b' = b'} {n' = n'} s t e p l x = subst (λ (m : List ℕ). Text b' n' (l ++ m)) e (p l x)
+appends-same {b} {b'} {n} {n'} s t e p = subst (λ (m : List ℕ). Appends b n m b' n') e p
 
-pub appends-nothing : (b : List ℕ) (n : ℕ) → Appends b n [] b n
-appends-nothing b n l x = subst (Text b n) (sym (append-nil l)) x
+-- where the text ends at the buffer's end, or is said to end behind it, nothing is written
+pub appends-beyond : (b : List ℕ) (n : ℕ) (s : List ℕ) → length b ≤ n → Appends b n s b (length b)
+appends-beyond b n s h = record { bytes = sym (written-past b n s h); ends = omega (arith, h) }
 
+pub appends-nothing : (b : List ℕ) (n : ℕ) → n ≤ length b → Appends b n [] b n
+appends-nothing b n h = record { bytes = sym (written-nothing b n); ends = omega (arith, h) }
+
+appends-store : (b : List ℕ) (n x : ℕ) → n < length b → Appends b n (x ∷ []) (set b n x) (n + 1)
+appends-store b n x h = record { bytes = written-store b n x; ends = omega (arith, h) }
+
+-- ---- what stands in the buffer
 -- no text yet
-pub text-start : (b : List ℕ) → Text b 0 []
+text-start : (b : List ℕ) → Text b 0 []
 text-start b = record { within = omega arith; most = omega arith; all = λ _. refl; same = refl }
 
--- ---- one byte more, and a buffer that is full
+-- the first n' bytes of the text l, whose first n bytes the buffer has, and of s behind it
+text-then : {b : List ℕ} {n : ℕ} {l : List ℕ} → Text b n l → (s : List ℕ) (n' : ℕ) → n' ≡ min (length b) (n + length s) → take n' (take n b ++ s) ≡ take n' (l ++ s)
+text-then {b} {n} {l} t s n' e =
+    ap (λ (m : List ℕ). take n' (m ++ s)) (t .same)
+    ∙ cases n (length b)
+    (λ h. ap (λ (m : List ℕ). take n' (m ++ s)) (take-all n l (omega (arith, t .all h))))
+    (λ h.
+    let k : n' ≡ n = omega (arith, e, h, t .within) in
+    let g = length-take-le n l (t .most) in
+    rw k (take-append-le n (take n l) s (omega (arith, g)) ∙ take-all n (take n l) (omega (arith, g)) ∙ sym (take-append-le n l s (t .most))))
 
-module _ {b : List ℕ} {n : ℕ} {l : List ℕ} (t : Text b n l) where
-  text-byte : (x : ℕ) → n < length b → Text (set b n x) (n + 1) (l ++ (x ∷ []))
-  text-byte x h =
-      let e = t .all h in
-      let k = length-append l (x ∷ []) in
-      let p : take (suc n) (set b n x) ≡ take n b ++ (x ∷ []) = take-suc-set b n x h in
-      let q : take n b ≡ l = t .same ∙ take-all n l (omega (arith, e)) in
-      let r : take (n + 1) (l ++ (x ∷ [])) ≡ l ++ (x ∷ []) = take-all (n + 1) (l ++ (x ∷ [])) (omega (arith, e, k)) in
+module _ {b b' : List ℕ} {n n' : ℕ} {s : List ℕ} (p : Appends b n s b' n') where
+  pub appends-text : (l : List ℕ) → Text b n l → Text b' n' (l ++ s)
+  appends-text l t =
+      let k = length-append l s in
       record {
-        within = omega (arith, length-set b n x);
-        most = omega (arith, e, k);
-        all = λ _. omega (arith, e, k);
-        same = ap (λ (j : ℕ). take j (set b n x)) (add-one n) ∙ p ∙ ap (λ (m : List ℕ). m ++ (x ∷ [])) q ∙ sym r;
+        within = appends-inside p;
+        most = omega (arith, p .ends, t .most, k);
+        all = λ h. (let g : n < length b = omega (arith, p .ends, h, appends-length p) in omega (arith, p .ends, h, appends-length p, t .all g, k));
+        same = ap (take n') (p .bytes) ∙ written-upto b n s n' (omega (arith, p .ends)) (omega (arith, p .ends)) ∙ text-then t s n' (p .ends);
       }
 
-  text-full : (s : List ℕ) → length b ≤ n → Text b n (l ++ s)
-  text-full s h = record {
-    within = t .within;
-    most = omega (arith, t .most, length-append l s);
-    all = λ g. absurd (omega (arith, g));
-    same = t .same ∙ sym (take-append-le n l s (t .most));
-  }
+  -- every byte behind the text is as it was
+  pub appends-past : drop n' b' ≡ drop n' b
+  appends-past =
+      cases n' (length b)
+      (λ h. ap (drop n') (p .bytes) ∙ written-behind b n s n' (omega (arith, p .ends, h)))
+      (λ h. drop-out n' b' (omega (arith, h, appends-length p)) ∙ sym (drop-out n' b h))
+
+-- the first text of a buffer
+pub text-of : {b b' : List ℕ} {n : ℕ} {s : List ℕ} → Appends b 0 s b' n → Text b' n s
+text-of {b} p = appends-text p [] (text-start b)
 
 -- ---- i bytes of s are appended to the text that ended at `at` in the buffer b₀
 
@@ -67,7 +104,7 @@ appending-start b at s h = record {
   turns = omega arith;
   inside = h;
   size = refl;
-  text = λ l t. subst (Text b at) (sym (append-nil l)) t;
+  text = appends-nothing b at h;
 }
 
 module _ {b₀ : List ℕ} {at : ℕ} {s b : List ℕ} {n i : ℕ} (p : Appending b₀ at s b n i) where
@@ -79,18 +116,17 @@ module _ {b₀ : List ℕ} {at : ℕ} {s b : List ℕ} {n i : ℕ} (p : Appendin
         turns = omega arith;
         inside = omega (arith, length-set b n x);
         size = length-set b n x ∙ p .size;
-        text = λ l t.
-            subst (Text (set b n x) (n + 1)) (append-assoc l (take i s) (x ∷ []) ∙ ap (λ (m : List ℕ). l ++ m) (sym e))
-            (text-byte (p .text l t) x h);
+        text = appends-same (take i s ++ (x ∷ [])) (take (i + 1) s) (sym e) (appends-then (take i s) (x ∷ []) (p .text) (appends-store b n x h));
       }
 
   pub appending-full : length b ≤ n → Appends b₀ at s b n
-  appending-full h l t =
-      subst (Text b n) (append-assoc l (take i s) (drop i s) ∙ ap (λ (m : List ℕ). l ++ m) (take-append-drop i s))
-      (text-full (p .text l t) (drop i s) h)
+  appending-full h =
+      let k : length b ≡ n = omega (arith, h, p .inside) in
+      appends-same (take i s ++ drop i s) s (take-append-drop i s)
+      (appends-then (take i s) (drop i s) (p .text) (subst (Appends b n (drop i s) b) k (appends-beyond b n (drop i s) h)))
 
   pub appending-end : length s ≤ i → Appends b₀ at s b n
-  appending-end h l t = subst (λ (m : List ℕ). Text b n (l ++ m)) (take-all i s h) (p .text l t)
+  appending-end h = appends-same (take i s) s (take-all i s h) (p .text)
 
 -- ---- the words for the refusal n, which is known to be k
 

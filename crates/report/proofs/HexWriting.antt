@@ -5,17 +5,18 @@ use native.Mathlib.Omega.{arith}
 use native.Mathlib.Numerals.{add-one}
 use native.Mathlib.Decide.{decLt}
 use mathlib.Core.Bool.{false}
-use mathlib.Core.Path.{_≡_, refl, sym, ap, subst, _∙_}
+use mathlib.Core.Path.{_≡_, refl, sym, ap, _∙_}
 use mathlib.Core.List.{List, [], _∷_, _++_}
 use lib.Dec.{lit<}
 use lib.ListN.{length, take, getD}
 use lib.Seq.{take-suc, take-all}
 use borrow.Author.Tests.{lt-ltb, le-ltb, ne-eqb}
 use Rattle.io.specs.Digits.{glyph}
+use Rattle.encoding.specs.Ranges.{AllBytes}
 use Rattle.report.specs.Hex.{isBlank, digitOf, afterHigh, tokenOf, whole, after, readFrom, pairOf, hexOf}
-use Rattle.report.specs.Text.{Text, Appends}
+use Rattle.report.specs.Text.{Appends}
 use Rattle.report.specs.declared.hex.Token.the-variants.{Byte}
-use Rattle.report.proofs.Lists.{append-nil, append-assoc}
+use Rattle.report.proofs.Appending.{appends-then, appends-same, appends-nothing}
 use Rattle.report.proofs.Hexing.{inside, above}
 
 -- ---- a digit
@@ -46,7 +47,7 @@ encoding-start b at s h = record {
   turns = omega arith;
   inside = h;
   size = refl;
-  text = λ l t. subst (Text b at) (sym (append-nil l)) t;
+  text = appends-nothing b at h;
 }
 
 module _ {b₀ : List ℕ} {at : ℕ} {s b : List ℕ} {n i : ℕ} (p : Encoding b₀ at s b n i) where
@@ -59,13 +60,11 @@ module _ {b₀ : List ℕ} {at : ℕ} {s b : List ℕ} {n i : ℕ} (p : Encoding
         turns = omega arith;
         inside = within;
         size = same ∙ p .size;
-        text = λ l t.
-            subst (Text b' n') (append-assoc l (hexOf (take i s)) (pairOf x) ∙ ap (λ (m : List ℕ). l ++ m) e)
-            (q (l ++ hexOf (take i s)) (p .text l t));
+        text = appends-same (hexOf (take i s) ++ pairOf x) (hexOf (take (i + 1) s)) e (appends-then (hexOf (take i s)) (pairOf x) (p .text) q);
       }
 
   pub encoding-end : length s ≤ i → Appends b₀ at (hexOf s) b n
-  encoding-end h l t = subst (λ (m : List ℕ). Text b n (l ++ hexOf m)) (take-all i s h) (p .text l t)
+  encoding-end h = appends-same (hexOf (take i s)) (hexOf s) (ap hexOf (take-all i s h)) (p .text)
 
 -- ---- what was written is read back
 digit-low : (d : ℕ) → d < 10 → (isBlank (glyph d) ≡ false) × (digitOf (glyph d) ≡ d)
@@ -111,7 +110,7 @@ pub pair-read : (p room b : ℕ) (s : List ℕ) → b < 256 → readFrom p (suc 
 unfolding readFrom
 pair-read p room b s h = rw (pair-back p b s h)
 
-pub hex-back : (p room : ℕ) (l : List ℕ) → ((j : ℕ) → getD l j 0 < 256) → length l ≤ room → readFrom p room (hexOf l) ≡ record { bytes = l; end = whole }
+pub hex-back : (p room : ℕ) (l : List ℕ) → AllBytes l → length l ≤ room → readFrom p room (hexOf l) ≡ record { bytes = l; end = whole }
 unfolding hexOf
 hex-back p room [] low h = nothing-read p room
 hex-back p zero (b ∷ l) low h = absurd (omega (arith, h))

@@ -3,7 +3,8 @@ use Prim.Native.Nat.{ℕ, suc, _+_, _*_, _≤_, _<_}
 use mathlib.Core.Bool.{true}
 use mathlib.Core.List.{List, [], _∷_, _++_}
 use mathlib.Core.Path.{_≡_, refl, _∙_}
-use lib.ListN.{length, drop, getD}
+use lib.ListN.{length, drop}
+use Rattle.encoding.specs.Ranges.{AllBytes}
 use Rattle.report.specs.Hex.{allLower, whole, after, readFrom, readingOf, pairOf, hexOf}
 use Rattle.report.specs.Text.{Text, Appends}
 use Rattle.report.proofs.Appending as appending
@@ -11,8 +12,11 @@ use Rattle.report.proofs.HexWriting as writing
 use Rattle.report.proofs.HexInverse as inverse
 use Rattle.report.proofs.Lists as lists
 
+-- `AllBytes` holds of every slice of bytes that is lent: the contract of `encoding::bytes_known`, `lent-bytes` on the
+-- page of `frames`.
+
 -- bytes written in hexadecimal are read back, where there is room for them
-pub hex-read-back : (l : List ℕ) (room : ℕ) → ((j : ℕ) → getD l j 0 < 256) → length l ≤ room → readingOf (hexOf l) room ≡ record { bytes = l; end = whole }
+pub hex-read-back : (l : List ℕ) (room : ℕ) → AllBytes l → length l ≤ room → readingOf (hexOf l) room ≡ record { bytes = l; end = whole }
 hex-read-back l room low h = writing.hex-back 0 room l low h
 
 -- a text of 2 n lower-case digits is read whole, where there is room for n bytes, and the bytes that were read are written as the same text
@@ -42,11 +46,30 @@ appends-then s t p q = appending.appends-then s t p q
 pub appends-same : {b b' : List ℕ} {n n' : ℕ} (s t : List ℕ) → s ≡ t → Appends b n s b' n' → Appends b n t b' n'
 appends-same s t e p = appending.appends-same s t e p
 
-pub appends-nothing : (b : List ℕ) (n : ℕ) → Appends b n [] b n
+pub appends-nothing : (b : List ℕ) (n : ℕ) → n ≤ length b → Appends b n [] b n
 appends-nothing = appending.appends-nothing
 
-pub text-start : (b : List ℕ) → Text b 0 []
-text-start = appending.text-start
+-- where the text ends at the buffer's end, or is said to end behind it, nothing is written
+pub appends-beyond : (b : List ℕ) (n : ℕ) (s : List ℕ) → length b ≤ n → Appends b n s b (length b)
+appends-beyond = appending.appends-beyond
+
+-- ---- what stands in the buffer then
+module _ {b b' : List ℕ} {n n' : ℕ} {s : List ℕ} (p : Appends b n s b' n') where
+  -- the text before it, and s: all of it, or as much as there is room for
+  pub appends-text : (l : List ℕ) → Text b n l → Text b' n' (l ++ s)
+  appends-text = appending.appends-text p
+
+  -- every byte behind the text is as it was
+  pub appends-past : drop n' b' ≡ drop n' b
+  appends-past = appending.appends-past p
+
+  -- the text ends in the buffer
+  pub appends-inside : n' ≤ length b'
+  appends-inside = appending.appends-inside p
+
+-- the first text of a buffer
+pub text-of : {b b' : List ℕ} {n : ℕ} {s : List ℕ} → Appends b 0 s b' n → Text b' n s
+text-of = appending.text-of
 
 -- the parts of a text appended one after the other: `more (more (one s p) t q) u r .text`
 pub record Appended (b : List ℕ) (n : ℕ) (s b' : List ℕ) (n' : ℕ) : Type 0 where
@@ -61,20 +84,22 @@ more {s = s} p t q = record { text = appending.appends-then s t (p .text) q }
 -- ---- a loop that appends a text part by part: what is appended from here on is the rest of what is appended from the start on
 pub record Going (b₀ : List ℕ) (at : ℕ) (all rest b : List ℕ) (n : ℕ) : Type 0 where
   pub size : length b ≡ length b₀
+  pub inside : n ≤ length b
   pub text : (b' : List ℕ) (n' : ℕ) → Appends b n rest b' n' → Appends b₀ at all b' n'
 
-pub going-start : (b : List ℕ) (at : ℕ) (all : List ℕ) → Going b at all all b at
-going-start b at all = record { size = refl; text = λ b' n' p. p }
+pub going-start : (b : List ℕ) (at : ℕ) (all : List ℕ) → at ≤ length b → Going b at all all b at
+going-start b at all h = record { size = refl; inside = h; text = λ b' n' p. p }
 
 pub going-part : {b₀ : List ℕ} {at : ℕ} {all rest b : List ℕ} {n : ℕ} → Going b₀ at all rest b n → (s more : List ℕ) → s ++ more ≡ rest
     → (b' : List ℕ) (n' : ℕ) → length b' ≡ length b → Appends b n s b' n' → Going b₀ at all more b' n'
 going-part {rest = rest} g s more e b' n' same p = record {
   size = same ∙ g .size;
+  inside = appending.appends-inside p;
   text = λ b'' n'' q. g .text b'' n'' (appending.appends-same (s ++ more) rest e (appending.appends-then s more p q));
 }
 
 pub going-end : {b₀ : List ℕ} {at : ℕ} {all rest b : List ℕ} {n : ℕ} → Going b₀ at all rest b n → [] ≡ rest → Appends b₀ at all b n
-going-end {rest = rest} {b} {n} g e = g .text b n (appending.appends-same [] rest e (appending.appends-nothing b n))
+going-end {rest = rest} {b} {n} g e = g .text b n (appending.appends-same [] rest e (appending.appends-nothing b n (g .inside)))
 
 -- no bytes are left behind the last
 pub drop-out : (n : ℕ) (l : List ℕ) → length l ≤ n → drop n l ≡ []

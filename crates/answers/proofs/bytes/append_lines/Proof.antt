@@ -18,7 +18,7 @@ abbrev μ-loop : tie.MeasureT-loop
 μ-loop out₀ at code n₀ k₀ out n k = length code - k
 
 loop-holds : tie.Need-loop-holds Inv-loop μ-loop
-loop-holds c = (going-start _ _ _, c .before .before .pre, omega arith)
+loop-holds c = (going-start _ _ _ (c .before .before .pre .0), c .before .before .pre, omega arith)
 
 line-end-requires : tie.Need-line-end-requires Inv-loop μ-loop
 line-end-requires c κs = c .before .loop .inv .2

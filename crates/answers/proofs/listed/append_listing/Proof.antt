@@ -24,7 +24,7 @@ row : (c : tie.Then1 Inv-loop μ-loop) → Listed (now (c .before .before .befor
 row c = listed _ _ (sym (c .before .is-row .ensures) ∙ c .if1 .taken)
 
 loop-holds : tie.Need-loop-holds Inv-loop μ-loop
-loop-holds c = (going-start _ _ _, c .before .before .pre)
+loop-holds c = (going-start _ _ _ (c .before .before .pre .0), c .before .before .pre)
 
 is-row-requires : tie.Need-is-row-requires Inv-loop μ-loop
 is-row-requires c κs = search needs

@@ -1,8 +1,7 @@
 -- `answers::outcome::is_narrow` meets its contract. Assumes nothing.
 use borrow.Author.Needs.{needs}
 use native.Mathlib.Omega.{arith}
-use mathlib.Core.List.{[]}
-use Rattle.report.proofs.Promises.{text-start}
+use Rattle.report.proofs.Promises.{text-of}
 use Rattle.runner.specs.Returned.{answerOf}
 use Rattle.answers.proofs.Answering.{narrow-by}
 use Rattle.answers.proofs.outcome.is_narrow.Statement.{statement}
@@ -18,7 +17,10 @@ append-completed-by-requires : tie.Need-append-completed-by-requires
 append-completed-by-requires c κs = search needs
 
 returns : tie.Need-returns
-returns c = let a = c .before .before .before .before .args in let w = c .before .append-completed-by in narrow-by (answerOf (a .value)) (a .steps) (w .last .0) (w .result) (w .ensures .1 [] (text-start _)) (omega (arith, w .kept .0))
+returns c =
+    let a = c .before .before .before .before .args in
+    let w = c .before .append-completed-by in
+    narrow-by (answerOf (a .value)) (a .steps) (w .last .0) (w .result) (text-of (w .ensures .1)) (omega (arith, w .kept .0))
 
 pub is-narrow-spec : {M : Type 1} → statement M
 is-narrow-spec =

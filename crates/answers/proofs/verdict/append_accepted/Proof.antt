@@ -1,5 +1,6 @@
 -- `answers::verdict::append_accepted` meets its contract. Assumes nothing.
 use borrow.Author.Needs.{needs}
+use mathlib.Core.Path.{_∙_}
 use Rattle.report.proofs.Promises.{one, more}
 use Rattle.report.specs.Text.{bytesOf}
 use Rattle.listing.specs.Numbers.{decimal}
@@ -46,7 +47,15 @@ append-requires-4 : tie.Need-append-requires-4
 append-requires-4 c κs = search needs
 
 same-length : tie.Need-same-length
-same-length c = search needs
+same-length c =
+    let half = c .before .before .before .before .before .before .before .before .before .before .before .before .before .before .before .before in
+    c .before .before .append4 .kept .0
+    ∙ c .before .before .before .before .before .before .before .append-number2 .kept .0
+    ∙ c .before .before .before .before .before .before .before .before .before .before .before .append3 .kept .0
+    ∙ half .append-number .kept .0
+    ∙ half .before .before .before .before .append2 .kept .0
+    ∙ half .before .before .before .before .before .before .before .before .before .append-count .kept .0
+    ∙ half .before .before .before .before .before .before .before .before .before .before .before .before .before .before .append .kept .0
 
 returns : tie.Need-returns
 unfolding acceptedText

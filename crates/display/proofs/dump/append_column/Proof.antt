@@ -2,8 +2,9 @@
 use borrow.Author.Needs.{needs}
 use Prim.Native.Nat.{_+_, _-_}
 use denote.Ref.{now}
+use native.Mathlib.Omega.{arith}
 use lib.ListN.{drop}
-use Rattle.report.proofs.Promises.{Going, going-start, going-part, going-end}
+use Rattle.report.proofs.Promises.{appends-beyond, Going, going-start, going-part, going-end}
 use Rattle.display.specs.Dump.{cell, column}
 use Rattle.display.proofs.Dumping.{cellsFrom, cells-part, cells-end}
 use Rattle.display.proofs.dump.append_column.Statement.{statement}
@@ -15,8 +16,11 @@ Inv-loop out₀ at bytes n₀ i₀ out n i = Going out₀ at (column 16 bytes) (
 abbrev μ-loop : tie.MeasureT-loop
 μ-loop out₀ at bytes n₀ i₀ out n i = 16 - i
 
+returns : tie.Need-returns Inv-loop μ-loop
+returns c = appends-beyond _ _ _ (omega (arith, c .if1 .taken))
+
 loop-holds : tie.Need-loop-holds Inv-loop μ-loop
-loop-holds c = going-start _ _ _
+loop-holds c = going-start _ _ _ (search needs)
 
 append-cell-requires : tie.Need-append-cell-requires Inv-loop μ-loop
 append-cell-requires c κs = search needs
@@ -28,13 +32,19 @@ loop-less : tie.Need-loop-less Inv-loop μ-loop
 loop-less c = search needs
 
 loop-again : tie.Need-loop-again Inv-loop μ-loop
-loop-again c = let a = c .before .before .append-cell in let l = now (c .before .before .before .before .before .before .before .before .args .bytes) in let i = c .before .before .before .before .before .loop .i in going-part (c .before .before .before .before .before .loop .inv) (cell (drop i l)) (column (16 - (i + 1)) (drop (i + 1) l)) (cells-part l i (c .before .before .before .before .loop-test .taken)) (a .last .0) (a .result) (a .kept .0) (a .ensures)
+loop-again c =
+    let a = c .before .before .append-cell in
+    let l = now (c .before .before .before .before .before .before .before .before .before .args .bytes) in
+    let turn = c .before .before .before .before in
+    let i = turn .before .loop .i in
+    going-part (turn .before .loop .inv) (cell (drop i l)) (column (16 - (i + 1)) (drop (i + 1) l)) (cells-part l i (turn .loop-test .taken))
+    (a .last .0) (a .result) (a .kept .0) (a .ensures)
 
 same-length : tie.Need-same-length Inv-loop μ-loop
 same-length c = c .before .loop .inv .size
 
-returns : tie.Need-returns Inv-loop μ-loop
-returns c = going-end (c .before .loop .inv) (cells-end _ _ (c .loop-test .left))
+returns-2 : tie.Need-returns-2 Inv-loop μ-loop
+returns-2 c = going-end (c .before .loop .inv) (cells-end _ _ (c .loop-test .left))
 
 pub append-column-spec : {M : Type 1} → statement M
 append-column-spec =
@@ -42,10 +52,11 @@ append-column-spec =
     (tie.spec
     Inv-loop
     μ-loop
+    returns
     loop-holds
     append-cell-requires
     add-i
     loop-less
     loop-again
     same-length
-    returns)
+    returns-2)

@@ -1,9 +1,6 @@
 use borrow.Author.Needs.{needs}
 use denote.Ref.{now}
-use Prim.Native.Nat.{ℕ}
-use mathlib.Core.List.{List, _++_}
-use mathlib.Core.Path.{subst}
-use Rattle.report.specs.Text.{Text}
+use Rattle.report.proofs.Promises.{appends-same}
 use Rattle.listing.proofs.Opcodes.{row-length, row-name}
 use Rattle.listing.proofs.names.append_from.Statement.{statement}
 use Rattle.listing.proofs.names.append_from.Tie as tie
@@ -36,7 +33,10 @@ same-length : tie.Need-same-length
 same-length c = search needs
 
 returns : tie.Need-returns
-returns c = let a = c .before .before .before .before .before .before .before .before .before .before .args in let q = row-name (now (a .names)) (a .opcode) (c .before .before .before .before .before .before .before .before .before .before .pre .0) (c .before .before .before .before .before .before .before .before .before .before .pre .1) _ (c .before .before .before .before .before .before .word-length .ensures .0) in let p = c .before .before .append in λ l t. subst (λ (m : List ℕ). Text (p .last .0) (p .result) (l ++ m)) q (p .ensures .1 l t)
+returns c =
+    let s = c .before .before .before .before .before .before .before .before .before .before in
+    let q = row-name (now (s .args .names)) (s .args .opcode) (s .pre .0) (s .pre .1) _ (c .before .before .before .before .before .before .word-length .ensures .0) in
+    appends-same _ _ q (c .before .before .append .ensures .1)
 
 pub append-from-spec : {M : Type 1} → statement M
 append-from-spec =

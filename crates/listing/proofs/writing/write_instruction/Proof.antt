@@ -1,9 +1,8 @@
 use borrow.Author.Needs.{needs}
 use denote.Ref.{now}
-use mathlib.Core.List.{[]}
 use mathlib.Core.Path.{sym, _∙_}
 use borrow.Author.Tests.{not-true, not-false}
-use Rattle.report.proofs.Promises.{text-start}
+use Rattle.report.proofs.Promises.{text-of}
 use Rattle.listing.proofs.Texting.{writes-none, writes-no-room, writes-text}
 use native.Mathlib.Omega.{arith}
 use Rattle.listing.proofs.writing.write_instruction.Statement.{statement}
@@ -26,7 +25,7 @@ returns-2 c =
     let a = c .before .before .before .before .before .before .before .before .args in
     let w = c .before .before .append-instruction in
     writes-no-room (now (a .code)) (a .at) (now (a .out)) _ (c .before .before .before .before .before .is-instruction .ensures) (not-false _ (c .before .before .before .before .if1 .left))
-    (w .last .0) (w .result) (w .ensures .0 [] (text-start _)) (omega (arith, w .ensures .1, w .kept .0)) (c .if2 .taken)
+    (w .last .0) (w .result) (text-of (w .ensures .0)) (omega (arith, w .ensures .1, w .kept .0)) (c .if2 .taken)
 
 sub-put-bytes : tie.Need-sub-put-bytes
 sub-put-bytes c = search needs
@@ -35,7 +34,7 @@ part-put-bytes-start : tie.Need-part-put-bytes-start
 part-put-bytes-start c = search needs
 
 part-put-bytes-end : tie.Need-part-put-bytes-end
-part-put-bytes-end c = omega (arith, c .before .before .before .before .append-instruction .ensures .0 [] (text-start _) .within)
+part-put-bytes-end c = omega (arith, text-of (c .before .before .before .before .append-instruction .ensures .0) .within)
 
 put-bytes-requires : tie.Need-put-bytes-requires
 put-bytes-requires c κs = search needs
@@ -48,7 +47,7 @@ returns-3 c =
     let a = c .before .before .before .before .before .before .before .before .before .before .before .before .before .before .args in
     let w = c .before .before .before .before .before .before .before .before .append-instruction in
     writes-text (now (a .code)) (a .at) (now (a .out)) _ (c .before .before .before .before .before .before .before .before .before .before .before .is-instruction .ensures) (not-false _ (c .before .before .before .before .before .before .before .before .before .before .if1 .left))
-    (w .last .0) (w .result) (w .ensures .0 [] (text-start _)) (omega (arith, w .ensures .1, w .kept .0)) (c .before .before .before .before .before .before .if2 .left)
+    (w .last .0) (w .result) (text-of (w .ensures .0)) (omega (arith, w .ensures .1, w .kept .0)) (c .before .before .before .before .before .before .if2 .left)
     _ (c .before .before .put-bytes .ensures)
 
 pub write-instruction-spec : {M : Type 1} → statement M

@@ -1,10 +1,7 @@
 -- `report::hex::append_byte` meets its contract. Assumes nothing.
 use borrow.Author.Needs.{needs}
-use Prim.Native.Nat.{ℕ}
-use mathlib.Core.List.{List, _++_}
-use mathlib.Core.Path.{subst}
+use Rattle.report.proofs.Appending.{appends-same}
 use Rattle.report.proofs.HexWriting.{pair-is}
-use Rattle.report.specs.Text.{Text}
 use Rattle.report.proofs.hex.append_byte.Statement.{statement}
 use Rattle.report.proofs.hex.append_byte.Tie as tie
 
@@ -27,7 +24,7 @@ returns : tie.Need-returns
 returns c =
     let p = c .before .before .append in
     let pair = pair-is (c .before .before .before .before .before .before .before .before .args .byte) _ _ (c .before .before .before .before .before .before .character .ensures) (c .before .before .before .before .before .character2 .ensures) in
-    (p .ensures .0, λ l t. subst (λ (m : List ℕ). Text (p .last .0) (p .result) (l ++ m)) pair (p .ensures .1 l t))
+    (p .ensures .0, appends-same _ _ pair (p .ensures .1))
 
 pub append-byte-spec : {M : Type 1} → statement M
 append-byte-spec =

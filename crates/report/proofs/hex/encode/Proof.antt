@@ -2,7 +2,7 @@
 use borrow.Author.Needs.{needs}
 use Prim.Native.Nat.{_-_}
 use lib.ListN.{length}
-use Rattle.report.proofs.Appending.{counts}
+use Rattle.report.proofs.Appending.{counts, appends-beyond}
 use Rattle.report.proofs.HexWriting.{Encoding, encoding-start, encoding-byte, encoding-end}
 use native.Mathlib.Omega.{arith}
 use Rattle.report.proofs.hex.encode.Statement.{statement}
@@ -15,7 +15,7 @@ abbrev μ-loop : tie.MeasureT-loop
 μ-loop out₀ at bytes n₀ i₀ out n i = length bytes - i
 
 returns : tie.Need-returns Inv-loop μ-loop
-returns c = (counts _ _ (omega arith), λ l t. absurd (omega (arith, t .within, c .if1 .taken)))
+returns c = (counts _ _ (omega arith), appends-beyond _ _ _ (omega (arith, c .if1 .taken)))
 
 loop-holds : tie.Need-loop-holds Inv-loop μ-loop
 loop-holds c = encoding-start _ _ _ (search needs)

@@ -3,7 +3,7 @@ use borrow.Author.Needs.{needs}
 use native.Mathlib.Omega.{arith}
 use Prim.Native.Nat.{_-_}
 use lib.ListN.{length}
-use Rattle.report.proofs.Appending.{counts, Appending, appending-start, appending-byte, appending-full, appending-end}
+use Rattle.report.proofs.Appending.{counts, appends-beyond, Appending, appending-start, appending-byte, appending-full, appending-end}
 use Rattle.report.proofs.text.append.Statement.{statement}
 use Rattle.report.proofs.text.append.Tie as tie
 
@@ -14,7 +14,7 @@ abbrev μ-loop : tie.MeasureT-loop
 μ-loop out₀ at bytes n₀ i₀ out n i = length bytes - i
 
 returns : tie.Need-returns Inv-loop μ-loop
-returns c = (counts _ _ (omega arith), λ l t. absurd (omega (arith, t .within, c .if1 .taken)))
+returns c = (counts _ _ (omega arith), appends-beyond _ _ _ (omega (arith, c .if1 .taken)))
 
 loop-holds : tie.Need-loop-holds Inv-loop μ-loop
 loop-holds c = appending-start _ _ _ (search needs)

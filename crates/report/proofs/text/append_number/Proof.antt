@@ -1,9 +1,6 @@
 -- `report::text::append_number` meets its contract: the bytes appended are the digits that `io::decimal` ensures. Assumes nothing.
 use borrow.Author.Needs.{needs}
-use mathlib.Core.Path.{subst}
-use Prim.Native.Nat.{ℕ}
-use mathlib.Core.List.{List, _++_}
-use Rattle.report.specs.Text.{Text}
+use Rattle.report.proofs.Appending.{appends-same}
 use Rattle.report.proofs.text.append_number.Statement.{statement}
 use Rattle.report.proofs.text.append_number.Tie as tie
 
@@ -26,7 +23,7 @@ returns : tie.Need-returns
 returns c =
     let d = c .before .before .before .before .before .decimal in
     let p = c .before .before .append in
-    (p .ensures .0, (d .result, d .ensures .1 .0, λ l t. subst (λ (m : List ℕ). Text (p .last .0) (p .result) (l ++ m)) (d .ensures .1 .1) (p .ensures .1 l t)))
+    (p .ensures .0, (d .result, d .ensures .1 .0, appends-same _ _ (d .ensures .1 .1) (p .ensures .1)))
 
 pub append-number-spec : {M : Type 1} → statement M
 append-number-spec =

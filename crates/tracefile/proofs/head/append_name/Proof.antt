@@ -1,9 +1,8 @@
 -- `tracefile::head::append_name` meets its contract. Assumes nothing.
 use borrow.Author.Needs.{needs}
-use mathlib.Core.List.{[]}
 use mathlib.Core.Path.{ap}
 use native.Mathlib.Omega.{arith}
-use Rattle.report.proofs.Promises.{appends-same, text-start}
+use Rattle.report.proofs.Promises.{appends-same, appends-text, text-of}
 use Rattle.report.specs.Text.{bytesOf}
 use Rattle.report.specs.Hex.{hexOf}
 use Rattle.listing.proofs.Promises.{appends-number}
@@ -42,7 +41,17 @@ same-length : tie.Need-same-length
 same-length c = search needs
 
 returns : tie.Need-returns
-returns c = let a = c .before .before .before .before .before .before .before .before .before .before .before .before .before .before .args in let p = c .before .before .before .before .before .before .before .before .before .before .append in let q = c .before .before .before .before .before .before .before .append-number in let s = p .ensures .1 [] (text-start _) in let x = q .ensures .1 in appends-same _ _ (ap hexOf (named (q .last .0) (q .result) (a .number) (x .0) (omega (arith, q .kept .0, p .kept .0)) (c .before .before .before .before .before .before .before .before .before .before .before .before .before .before .fits .number .fits) (x .1) (x .2 (bytesOf "v") s) (appends-number (a .number) x (bytesOf "v") s))) (c .before .before .encode .ensures .1)
+returns c =
+    let e = c .before .before .before .before .before .before .before .before .before .before .before .before .before .before in
+    let v = e .args .number in
+    let p = c .before .before .before .before .before .before .before .before .before .before .append in
+    let q = c .before .before .before .before .before .before .before .append-number in
+    let s = text-of (p .ensures .1) in
+    let x = q .ensures .1 in
+    let t = appends-text (x .2) (bytesOf "v") s in
+    let u = appends-text (appends-number v x) (bytesOf "v") s in
+    let name = named (q .last .0) (q .result) v (x .0) (omega (arith, q .kept .0, p .kept .0)) (e .fits .number .fits) (x .1) t u in
+    appends-same _ _ (ap hexOf name) (c .before .before .encode .ensures .1)
 
 pub append-name-spec : {M : Type 1} → statement M
 append-name-spec =
