@@ -1,4 +1,5 @@
--- What users of `answers` may cite. The contracts of src/ are the rest: each function appends the text that specs/ defines.
+-- What users of `answers` may cite. The contracts of src/ are the rest: each function appends the text that specs/
+-- defines.
 use Prim.Native.Nat.{ℕ, _+_, _*_, _/_, _^_, _≤_, _<_}
 use mathlib.Core.Bool.{Bool, true, false}
 use mathlib.Core.List.{List, _++_}
@@ -27,7 +28,7 @@ pub wide-lines : (a : Answer) (n : ℕ) → isNarrow a n ≡ false → IsWords a
 wide-lines = columns.two-lines
 
 -- `AllBytes` holds of every slice of bytes that is lent: the contract of `encoding::bytes_known`, `lent-bytes` on the
--- page of `frames`.
+-- page of the demands.
 
 -- ---- the whole answer of `verify` on bytes e: a buffer of 98,304 bytes has room for it, and holds it whole
 module _ (e : List ℕ) (low : AllBytes e) (size : length e < 2 ^ 64) (hs : List ℕ) (r : ArrivalsBy e (verdict e) hs) (listed : Bool) where
@@ -42,7 +43,8 @@ module _ (e : List ℕ) (low : AllBytes e) (size : length e < 2 ^ 64) (hs : List
 pub bytes-length : (e : List ℕ) → length (bytesText e) ≡ 2 * length e + 7 * ((length e + 39) / 40)
 bytes-length = lines.bytes-length
 
--- ---- what `verify --list` prints of an accepted expression is read back as its bytes, whatever heights stand beside the instructions
+-- ---- what `verify --list` prints of an accepted expression is read back as its bytes, whatever heights stand beside
+-- the instructions
 module _ (e : List ℕ) (low : AllBytes e) {n g l : ℕ} (q : verdict e ≡ accepted n g l) (hs : List ℕ) where
   pub answer-read-back : readText (answerText e (accepted n g l) hs true) ≡ bytes e
   answer-read-back = back.answer-back e low q hs

@@ -19,6 +19,7 @@ use scenario::Item;
 use scenario::LOAD;
 use scenario::MEMORY;
 use scenario::SAVE;
+use scenario_run::run_with;
 use scenario_setting::Setting;
 use scenario_setting::first_bytes;
 use scenario_setting::start;
@@ -28,7 +29,6 @@ use scenario_setting::with_default_allowance;
 use scenario_setting::with_number;
 use scenario_setting::with_span;
 use scenario_setting::with_used;
-use scenario_run::run_with;
 use std::num::wrapping_add_u64;
 
 // So many bytes were taken, or an error was told.

@@ -1,6 +1,7 @@
--- The demands (docs/demands.md), sentence by sentence, each as a statement that is proved by citing the crates' pages. What a reader must believe besides is the
--- definitions that are named here: `verdict`, `Walk` and `Accepted` (verifier, isa), `ended` (machine), `fetched`, `targetByte` and `InTarget` (memory), `encodeFrame`
--- (frames), `reading`, `counting`, `located` and `walked` (reader), `ToldRun` (lilivrez_agent), and this crate's specs/.
+-- The demands (docs/demands.md), sentence by sentence, each as a statement that is proved by citing the crates' pages.
+-- What a reader must believe besides is the definitions that are named here: `verdict`, `Walk` and `Accepted`
+-- (verifier, isa), `ended` (machine), `fetched`, `targetByte` and `InTarget` (memory), `encodeFrame` (frames),
+-- `reading`, `counting`, `located` and `walked` (reader), `ToldRun` (lilivrez_agent), and this crate's specs/.
 use mathlib.Core.List.{List, _∷_, _++_}
 use mathlib.Core.Logic.{_↔_, _≢_}
 use mathlib.Core.Path.{_≡_, sym, ap, _∙_}
@@ -61,12 +62,13 @@ use Rattle.walker.proofs.new as walker-new
 use Rattle.walker.proofs.step as walker-step
 
 -- ==== Demand 1
--- "Every entry point answers on any bytes, spans, registers, buffer and step allowance, and refuses bad ones itself." `Answers` and `Exports` (specs/Entry.antt): whatever the
--- function is called with, nothing is asked of the caller, it ends, and what stands here holds of its arguments in their order, its answer r, and its arguments as it
--- leaves them. `now` is what a slice or a reference holds.
+-- "Every entry point answers on any bytes, spans, registers, buffer and step allowance, and refuses bad ones itself."
+-- `Answers` and `Exports` (specs/Entry.antt): whatever the function is called with, nothing is asked of the caller, it
+-- ends, and what stands here holds of its arguments in their order, its answer r, and its arguments as it leaves them.
+-- `now` is what a slice or a reference holds.
 module _ {M : Type 1} where
-  -- What is lent is what its type says: any slice has bytes, or words, throughout. So `AllBytes` and `AllWords`, which the crates' pages ask for, hold of any
-  -- arguments; of a run `ToldRun` and `Ran` say it.
+  -- What is lent is what its type says: any slice has bytes, or words, throughout. So `AllBytes` and `AllWords`, which
+  -- the crates' pages ask for, hold of any arguments; of a run `ToldRun` and `Ran` say it.
   pub lent-bytes : Answers M bytes-known.ended bytes-known.Symbol.routine (λ _ (bytes, _) _ _. AllBytes (now bytes))
   lent-bytes = bytes-known.Met.met
 
@@ -168,14 +170,15 @@ module _ {M : Type 1} where
       (locatedOf r ≡ walked (now buffer) place) × (now walker′ .buffer ≡ buffer) × (now walker′ .place ≡ placeAfter place (walked (now buffer) place)))
   walker-step-answers = walker-step.Met.met
 
--- "Each refusal has one number from document 01's table." The numbers that an entry gives are exactly those that the table (specs/Refusals.antt) has for it, and 0 where
--- nothing is refused.
+-- "Each refusal has one number from document 01's table." The numbers that an entry gives are exactly those that the
+-- table (specs/Refusals.antt) has for it, and 0 where nothing is refused.
 pub numbers-exact : (x : Entry) (r : ℕ) → Gives x r ↔ T (among (0 ∷ numbersOf x) r)
 numbers-exact = numbers.exact
 
 -- ==== of a run
--- m is fed to it, besides the variables v, the buffer b with its used length u, the tracepoint number t and the allowance. It returned `number`, stored `values`, and left the
--- variables v′ and the buffer b′: what `lilivrez_run` ensures. What `run` answers is told by the same numbers.
+-- m is fed to it, besides the variables v, the buffer b with its used length u, the tracepoint number t and the
+-- allowance. It returned `number`, stored `values`, and left the variables v′ and the buffer b′: what `lilivrez_run`
+-- ensures. What `run` answers is told by the same numbers.
 pub run-told : {m : Fed} {t : ℕ} {v b : List ℕ} {u allowance : ℕ} {r : Outcome} {v′ b′ : List ℕ} → Ran m t v b u allowance r v′ b′
     → ToldRun m t v b u allowance (numberTold r) (valuesTold u r) v′ b′
 run-told = reporting.run-told
@@ -191,21 +194,24 @@ module _ {m : Fed} {t : ℕ} {v b : List ℕ} {u allowance number : ℕ} {values
   used-told : usedIn values ≡ usedOf t u (ended m v b u allowance)
   used-told = ap usedIn (tells .values-of) ∙ reporting.used-in t u (ended m v b u allowance)
 
-  -- "A refused run gives back the variables and the used length it was given, and document 01 fixes each byte of the buffer."
+  -- "A refused run gives back the variables and the used length it was given, and document 01 fixes each byte of the
+  -- buffer."
   pub refused-leaves : number ≢ 0 → (v′ ≡ v) × (usedIn values ≡ u) × (b′ ≡ writtenAt b u (encodeAll made))
   refused-leaves z =
       let x = leaving.refused-leaves m t v b u allowance (rw (tells .number-of) at z) in
       (tells .variables-of ∙ x .0, used-told ∙ x .1, tells .buffer-of ∙ x .2)
 
   -- ==== Demand 2
-  -- "The verifier, the runner and the frame reader agree with the GDB manual's bytecode descriptions as document 01 makes them exact": the contracts above, of `verdict`,
-  -- `ended`, `reading`, `counting` and `walked`.
-  -- "Each recorded byte is the target's byte at the recorded address": of each record, whether the run completed or was refused.
+  -- "The verifier, the runner and the frame reader agree with the GDB manual's bytecode descriptions as document 01
+  -- makes them exact": the contracts above, of `verdict`, `ended`, `reading`, `counting` and `walked`.
+  -- "Each recorded byte is the target's byte at the recorded address": of each record, whether the run completed or was
+  -- refused.
   pub recorded-bytes : AllFromTarget m made
   recorded-bytes = machine.records-from-target m v b u allowance
 
-  -- "Reading the newest frame after a completed run gives exactly the records that run made": their number, each in its place with its bytes, and none past the last;
-  -- and the frames that were there before are read as before, one number higher.
+  -- "Reading the newest frame after a completed run gives exactly the records that run made": their number, each in its
+  -- place with its bytes, and none past the last; and the frames that were there before are read as before, one number
+  -- higher.
   module _ (done : number ≡ 0) where
     abbrev place : List Record → ℕ
     place before = u + length (encodeAll before)
@@ -242,8 +248,9 @@ module _ {m : Fed} {t : ℕ} {v b : List ℕ} {u allowance number : ℕ} {values
     pub older-record : (frame i : ℕ) → reading b′ (usedIn values) (suc frame) i ≡ reading b u frame i
     older-record = rw (used-is, buffer-is) (reader.older-record b u t made (framed .small) (framed .fits) (tells .typed .tracepoint))
 
-    -- The last two sentences in one piece. What the reader tells of the newest frame: a memory record with the address a, n bytes and their place p in the buffer. A span holds
-    -- each address a + j, and the byte at the place p + j is the target's byte there.
+    -- The last two sentences in one piece. What the reader tells of the newest frame: a memory record with the address
+    -- a, n bytes and their place p in the buffer. A span holds each address a + j, and the byte at the place p + j is
+    -- the target's byte there.
     pub newest-byte : (i : ℕ) {s a n p : ℕ} → reading b′ (usedIn values) 0 i ≡ memoryRead s a n p → (j : ℕ) → j < n
         → InTarget (m .image-first) (m .image) (m .work-first) (m .work) (a + j)
         × (getD b′ (p + j) 0 ≡ targetByte (m .image-first) (m .image) (m .work-first) (m .work) (a + j))
@@ -252,8 +259,8 @@ module _ {m : Fed} {t : ℕ} {v b : List ℕ} {u allowance number : ℕ} {values
         (telling.told-byte m (leaving.fine m t v b u allowance (sym (tells .number-of) ∙ done)) b u t made (framed .small) (framed .fits) (tells .typed .tracepoint) well recorded-bytes)
 
   -- ==== Demand 3
-  -- "No run of that expression, whatever else it is given, reports more steps than that number, and a run whose allowance is at least that number is never refused for
-  -- its allowance."
+  -- "No run of that expression, whatever else it is given, reports more steps than that number, and a run whose
+  -- allowance is at least that number is never refused for its allowance."
   pub steps-longest : {n g l : ℕ} → verdict (m .expression) ≡ accepted n g l → stepsIn values ≤ l
   steps-longest p = rw steps-told (machine.steps-longest m v b u allowance p)
 
@@ -264,17 +271,19 @@ module _ {m : Fed} {t : ℕ} {v b : List ℕ} {u allowance number : ℕ} {values
   pub default-enough : allowance ≡ defaultAllowance → number ≢ 16
   default-enough p = rw (tells .number-of) (machine.bytes-enough m v b u allowance (omega arith))
 
-  -- "For every run on any bytes, completed or refused, the steps that the runner reports are exactly as many as document 01's machine completes when it is fed the same"
+  -- "For every run on any bytes, completed or refused, the steps that the runner reports are exactly as many as
+  -- document 01's machine completes when it is fed the same"
   pub steps-machine : stepsIn values ≡ stepsOf (ended m v b u allowance)
   steps-machine = steps-told
 
-  -- "and the run ends as that machine ends: with the same refusal and offset, or the same answer, and with the same records": `valuesOf` has the offset, the steps, the used
-  -- length and the answer, `bufferOf` the records.
+  -- "and the run ends as that machine ends: with the same refusal and offset, or the same answer, and with the same
+  -- records": `valuesOf` has the offset, the steps, the used length and the answer, `bufferOf` the records.
   pub ends-as-machine : (number ≡ numberOf (ended m v b u allowance)) × (values ≡ valuesOf t u (ended m v b u allowance))
       × (v′ ≡ variablesOf v (ended m v b u allowance)) × (b′ ≡ bufferOf t b u (ended m v b u allowance))
   ends-as-machine = (tells .number-of, tells .values-of, tells .variables-of, tells .buffer-of)
 
--- "For each accepted expression the verifier reports the number of instructions on the longest walk from its start to an end, counting both ways out of each conditional
--- jump as possible. Some such walk has exactly that many, and none has more."
+-- "For each accepted expression the verifier reports the number of instructions on the longest walk from its start to
+-- an end, counting both ways out of each conditional jump as possible. Some such walk has exactly that many, and none
+-- has more."
 pub longest-walk : (e : List ℕ) {n g l : ℕ} → verdict e ≡ accepted n g l → MostIs length e l
 longest-walk e p = verifying.accepted-means e p .longest

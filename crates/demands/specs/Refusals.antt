@@ -1,4 +1,5 @@
--- Document 01's table of numbers and, for each, the entries that give it: "Each refusal has one number from document 01's table" (demand 1).
+-- Document 01's table of numbers and, for each, the entries that give it: "Each refusal has one number from document
+-- 01's table" (demand 1).
 use mathlib.Core.Bool.{Bool, true, cond, _&&_}
 use mathlib.Core.List.{List, [], _∷_, map}
 use mathlib.Core.Path.{_≡_}
@@ -36,7 +37,8 @@ table =
     -- "jump not to a start; jump not forward"
     ∷ (6, verify ∷ run ∷ run-default ∷ []) ∷ (7, verify ∷ run ∷ run-default ∷ [])
     -- "heights differ; too few cells; too many; runs off"
-    ∷ (8, verify ∷ run ∷ run-default ∷ []) ∷ (9, verify ∷ run ∷ run-default ∷ []) ∷ (10, verify ∷ run ∷ run-default ∷ []) ∷ (11, verify ∷ run ∷ run-default ∷ [])
+    ∷ (8, verify ∷ run ∷ run-default ∷ []) ∷ (9, verify ∷ run ∷ run-default ∷ [])
+    ∷ (10, verify ∷ run ∷ run-default ∷ []) ∷ (11, verify ∷ run ∷ run-default ∷ [])
     -- "first address + length exceeds 2^64; spans share an address"
     ∷ (12, fetch ∷ run ∷ run-default ∷ []) ∷ (13, fetch ∷ run ∷ run-default ∷ [])
     -- "over 256 registers; buffer over 65,536 or used beyond its length"
@@ -76,8 +78,8 @@ abbrev pub numbersOf : Entry → List ℕ
 numbersOf x = numbersIn x table
 
 -- ---- what an entry answers
--- what decides its refusal: an expression; spans, an address and a size; what a run is given, but for the tracepoint number, which decides nothing; a buffer, its used
--- length or the walker's place, a frame's number and a record's
+-- what decides its refusal: an expression; spans, an address and a size; what a run is given, but for the tracepoint
+-- number, which decides nothing; a buffer, its used length or the walker's place, a frame's number and a record's
 abbrev pub Inputs : Entry → Type 0
 Inputs verify = List ℕ
 Inputs fetch = ℕ × List ℕ × ℕ × List ℕ × ℕ × ℕ

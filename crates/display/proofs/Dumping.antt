@@ -1,4 +1,5 @@
--- Laws of the lines that show bytes, for the proofs of the functions of `dump`, and that the bytes are read back. Assumes nothing.
+-- Laws of the lines that show bytes, for the proofs of the functions of `dump`, and that the bytes are read back.
+-- Assumes nothing.
 use Prim.Native.Nat.{ℕ, zero, suc, _+_, _-_, _*_, _/_, _%_, _^_, _≤_, _<_, min}
 use native.Mathlib.Omega.{arith}
 use native.Mathlib.Numerals.{add-one}

@@ -1,4 +1,5 @@
--- What users of `display` may cite. The contracts of src/ are the rest: each function appends the text that specs/ defines.
+-- What users of `display` may cite. The contracts of src/ are the rest: each function appends the text that specs/
+-- defines.
 use Prim.Native.Nat.{ℕ, _+_, _%_, _^_, _≤_, _<_}
 use mathlib.Core.List.{List, _∷_, _++_}
 use mathlib.Core.Path.{_≡_, ap, _∙_}
@@ -15,15 +16,16 @@ use Rattle.display.specs.Dump.{dumpLine, dumpText}
 use Rattle.display.proofs.Dumping as dumping
 
 -- `AllBytes` holds of every slice of bytes that is lent: the contract of `encoding::bytes_known`, `lent-bytes` on the
--- page of `frames`.
+-- page of the demands.
 
 -- characters 21 to 68 of a dump line are its hexadecimal column; read back, they are the bytes of the line
 pub line-read-back : (address : ℕ) (l : List ℕ) (room : ℕ) → AllBytes l → length l ≤ 16 → length l ≤ room
     → readingOf (take 48 (drop 21 (dumpLine address l))) room ≡ record { bytes = l; end = whole }
 line-read-back address l room low h g = ap (λ (m : List ℕ). readingOf m room) (dumping.column-in-line address l) ∙ dumping.column-back 0 room 16 l low h g
 
--- a frame of the records rs and of tracepoint t, written behind the u used bytes of the buffer l, and counted as used: the dump of a memory
--- record of it shows the recorded bytes, 16 to a line, each line with the address of its first byte
+-- a frame of the records rs and of tracepoint t, written behind the u used bytes of the buffer l, and counted as used:
+-- the dump of a memory record of it shows the recorded bytes, 16 to a line, each line with the address of its first
+-- byte
 module _ (l : List ℕ) (u t : ℕ) (rs : List Record) (small : length l ≤ 65536) (fits : u + length (encodeFrame t rs) ≤ length l) (low : t < 2 ^ 16) (well : AllWellFormed rs) where
   abbrev after : List ℕ
   after = writtenAt l u (encodeFrame t rs)

@@ -88,8 +88,8 @@ fn least(a: usize, b: usize) -> usize
     b
 }
 
-// Appends the line of the bytes from `offset` on of record `index` of frame `number`. Nothing is appended past the last byte,
-// or where there is no memory record.
+// Appends the line of the bytes from `offset` on of record `index` of frame `number`. Nothing is appended past the last
+// byte, or where there is no memory record.
 pub fn append_dump(
     out: &mut [u8],
     at: usize,

@@ -69,7 +69,8 @@ tried-most b (t ∷ ts) n =
     chosen-most (t .0) b (t .1) (tried ts) (leb→le (t .1) b (and-left (leb (t .1) b) (numbersAtMost b ts) n))
     (tried-most b ts (and-right (leb (t .1) b) (numbersAtMost b ts) n))
 
--- ---- lists of numbers below b. That a slice of the code is such a list, with its type's b, is the contract of `bytes_known` and `words_known`.
+-- ---- lists of numbers below b. That a slice of the code is such a list, with its type's b, is the contract of
+-- `bytes_known` and `words_known`.
 module _ (b : ℕ) where
   pub below-cons : (x : ℕ) (l : List ℕ) → x < b → Below b l → Below b (x ∷ l)
   below-cons = ranges.below-cons b

@@ -1,4 +1,5 @@
--- What the types of the code say of a list. Document 01, "What is built" and "Sizes": expressions, spans and buffers are lent bytes, cells are "of 64 bits".
+-- What the types of the code say of a list. Document 01, "What is built" and "Sizes": expressions, spans and buffers
+-- are lent bytes, cells are "of 64 bits".
 use mathlib.Core.List.{List}
 use Prim.Native.Nat.{ℕ, _^_, _<_}
 use lib.ListN.{getD}

@@ -7,8 +7,9 @@ ghost use Rattle.encoding.specs.LittleEndian.{littleEndian, littleBytes}
 ghost use Rattle.encoding.specs.Written.{writtenAt};
 ghost use Rattle.encoding.specs.Ranges.{AllBytes, AllWords};
 
-// ---- what a slice's type says of all its elements. Where one of them is read, the range of every one is known: so the first is read, for a caller to know it of
-// any slice. The compiler removes the read.
+// ---- what a slice's type says of all its elements
+// Where one of them is read, the range of every one is known: so the first is read, for a caller to know it of any
+// slice. The compiler removes the read.
 pub fn bytes_known(bytes: &[u8])
     ensures { λ _. ⌜ AllBytes (now (bytes .entry)) ⌝ }
 {
@@ -98,8 +99,8 @@ fn block() -> [u8; 65536]
     [0; 65536]
 }
 
-// The same as `put_each`, through a local array, which overlaps neither slice: so all bytes are read before the first is written, and
-// the compiler makes one move of both copies, without the array.
+// The same as `put_each`, through a local array, which overlaps neither slice: so all bytes are read before the first
+// is written, and the compiler makes one move of both copies, without the array.
 fn put_through(out: &mut [u8], at: usize, bytes: &[u8])
     requires { ⌜ length (now bytes) ≤ 65536 ⌝ ∗ ⌜ at + length (now bytes) ≤ length (now out) ⌝ }
     ensures { λ _. ⌜ now (out .exit) ≡ writtenAt (now (out .entry)) at (now (bytes .entry)) ⌝ }
@@ -110,7 +111,8 @@ fn put_through(out: &mut [u8], at: usize, bytes: &[u8])
     put_each(out, at, &block[..count]);
 }
 
-// The same in two moves of `width` bytes, which may overlap: where `width` is a literal, a move is one or two machine words.
+// The same in two moves of `width` bytes, which may overlap: where `width` is a literal, a move is one or two machine
+// words.
 fn put_two(out: &mut [u8], at: usize, bytes: &[u8], width: usize)
     requires { ⌜ width ≤ 16 ⌝ ∗ ⌜ width ≤ length (now bytes) ⌝ ∗ ⌜ length (now bytes) ≤ width + width ⌝ ∗ ⌜ at + length (now bytes) ≤ length (now out) ⌝ }
     ensures { λ _. ⌜ now (out .exit) ≡ writtenAt (now (out .entry)) at (now (bytes .entry)) ⌝ }
@@ -120,7 +122,8 @@ fn put_two(out: &mut [u8], at: usize, bytes: &[u8], width: usize)
     put_through(out, at + last, &bytes[last..]);
 }
 
-// Writes a copy of `bytes` from `at` on. A few bytes are moved in place, which costs less than a call. More than 65,536 no trace buffer has: they go one by one.
+// Writes a copy of `bytes` from `at` on. A few bytes are moved in place, which costs less than a call. More than 65,536
+// no trace buffer has: they go one by one.
 pub fn put_bytes(out: &mut [u8], at: usize, bytes: &[u8])
     requires { ⌜ at + length (now bytes) ≤ length (now out) ⌝ }
     ensures { λ _. ⌜ now (out .exit) ≡ writtenAt (now (out .entry)) at (now (bytes .entry)) ⌝ }

@@ -1,4 +1,5 @@
--- What users of `frames` may cite, each law stated in full and proved where it is named. The contracts of src/ are the rest.
+-- What users of `frames` may cite, each law stated in full and proved where it is named. The contracts of src/ are the
+-- rest.
 use mathlib.Core.Bool.{Bool, true}
 use mathlib.Core.List.{List, [], _∷_, _++_}
 use mathlib.Core.Path.{_≡_, refl}
@@ -22,7 +23,8 @@ use Rattle.frames.proofs.Closing as closing
 use Rattle.frames.proofs.Fitting as fitting
 use Rattle.frames.proofs.Reading as reading
 
--- The laws below that ask for bytes (`AllBytes`) hold of any slice that is lent: `lent-bytes` on the page of the demands.
+-- The laws below that ask for bytes (`AllBytes`) hold of any slice that is lent: `lent-bytes` on the page of the
+-- demands.
 
 -- ---- a record and its bytes
 -- 11 + the number of bytes, or 13

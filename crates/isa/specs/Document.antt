@@ -10,8 +10,8 @@ use Rattle.isa.specs.Classes.{Class, binary, trace, tracenz, unary, ref,
 abbrev each : List ℕ → Class → List (ℕ × Class)
 each ops c = map (λ (op : ℕ). (op, c)) ops
 
--- A line of the table: its instructions, each an opcode with the class that its name belongs to; and their row: operand bytes, cells needed, cells left in
--- their place (of pick for N = 0).
+-- A line of the table: its instructions, each an opcode with the class that its name belongs to; and their row: operand
+-- bytes, cells needed, cells left in their place (of pick for N = 0).
 unfoldable pub document : List (List (ℕ × Class) × List ℕ)
 document =
     -- 02 add .. 0b rsh_unsigned, 0f bit_and, 10 bit_or, 11 bit_xor, 13 equal, 14 less_signed, 15 less_unsigned
@@ -47,7 +47,8 @@ document =
 unfoldable pub unsupportedOpcodes : List ℕ
 unsupportedOpcodes = 0x01 ∷ 0x1b ∷ 0x1c ∷ 0x1d ∷ 0x1e ∷ 0x1f ∷ 0x34 ∷ []
 
--- The instructions that a rule of "Verifying" singles out: "ext 0 or variable above 63", "pick N", the jumps, and "after end nothing".
+-- The instructions that a rule of "Verifying" singles out: "ext 0 or variable above 63", "pick N", the jumps, and
+-- "after end nothing".
 unfoldable pub singled : List (List ℕ × ℕ)
 singled =
     (0x16 ∷ [], kind-ext)

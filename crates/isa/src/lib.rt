@@ -9,8 +9,8 @@ ghost use Rattle.isa.specs.Held.{held};
 ghost use Rattle.isa.specs.Rows.{table, line, IsRow};
 ghost use Rattle.isa.specs.Decode.{operandBytes, operand, next, picked};
 
-// A row by opcode: operand bytes, cells needed, cells left in their place, kind (specs/Classes.antt). That of pick is for N = 0.
-// A constant array is built anew wherever it is named: entries name it once and lend it down.
+// A row by opcode: operand bytes, cells needed, cells left in their place, kind (specs/Classes.antt). That of pick is
+// for N = 0. A constant array is built anew wherever it is named: entries name it once and lend it down.
 pub const ROWS: [[u8; 4]; 53] = [
     [0, 0, 0, 0], // 00 unknown
     [0, 0, 0, 1], // 01 unsupported
@@ -107,8 +107,8 @@ pub fn known_row(rows: &[[u8; 4]; 53], opcode: u8) -> Row
     }
 }
 
-// One number of the row of an opcode that has one: operand bytes (0), cells needed (1), cells left (2) or kind (3). A loop that wants speed
-// reads the numbers one by one: a whole row is taken apart by shifts.
+// One number of the row of an opcode that has one: operand bytes (0), cells needed (1), cells left (2) or kind (3). A
+// loop that wants speed reads the numbers one by one: a whole row is taken apart by shifts.
 pub fn column(rows: &[[u8; 4]; 53], opcode: u8, which: usize) -> u8
     requires { ⌜ now rows ≡ table ⌝ ∗ ⌜ opcode < 53 ⌝ ∗ ⌜ which < 4 ⌝ }
     ensures { λ r. ⌜ r ≡ getD (line (classOf opcode)) which 0 ⌝ }

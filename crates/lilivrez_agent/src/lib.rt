@@ -19,8 +19,8 @@ use runner::Value;
 
 // ---- target memory
 
-// Where the `size` bytes at `address` are. Returns the number of the refusal, or 0. Stores the number of the span that lends them (0 none, 1 program image,
-// 2 working memory) and the place of the first of them in that span.
+// Where the `size` bytes at `address` are. Returns the number of the refusal, or 0. Stores the number of the span that
+// lends them (0 none, 1 program image, 2 working memory) and the place of the first of them in that span.
 #[no_mangle]
 pub extern "C" fn lilivrez_fetch<'a>(
     image_first: u64,
@@ -74,8 +74,9 @@ fn tell(outcome: Outcome, used: usize, out: &mut [u64; 6]) -> u32
     }
 }
 
-// Verifies the expression, checks the inputs, and runs it: at most `allowance` instructions. Returns the number of the refusal, or 0 where the run completed.
-// Stores the offset of the refusal, the steps, the used length, how many cells the answer tells, the top and the cell beneath.
+// Verifies the expression, checks the inputs, and runs it: at most `allowance` instructions. Returns the number of the
+// refusal, or 0 where the run completed. Stores the offset of the refusal, the steps, the used length, how many cells
+// the answer tells, the top and the cell beneath.
 #[no_mangle]
 pub extern "C" fn lilivrez_run<'a>(
     expression: &[u8],
@@ -144,9 +145,10 @@ pub extern "C" fn lilivrez_run_default<'a>(
 
 // ---- frames
 
-// Reads record number `index` of frame number `frame`, both from 0; frame 0 is the newest. Returns the number of the refusal, or 0 where the record was read.
-// Stores the offset of the refusal, the tracepoint number, the record's kind (1 memory, 2 variable), then the address, the length and the place of its bytes in
-// the buffer, or the variable's number and value.
+// Reads record number `index` of frame number `frame`, both from 0; frame 0 is the newest. Returns the number of the
+// refusal, or 0 where the record was read. Stores the offset of the refusal, the tracepoint number, the record's kind
+// (1 memory, 2 variable), then the address, the length and the place of its bytes in the buffer, or the variable's
+// number and value.
 #[no_mangle]
 pub extern "C" fn lilivrez_read(
     buffer: &[u8],
@@ -176,8 +178,8 @@ pub extern "C" fn lilivrez_read(
     }
 }
 
-// Counts the records of frame number `frame`. Returns the number of the refusal, or 0. Stores the offset of the refusal, the tracepoint number, the start of the
-// frame, the length of its records and their number.
+// Counts the records of frame number `frame`. Returns the number of the refusal, or 0. Stores the offset of the
+// refusal, the tracepoint number, the start of the frame, the length of its records and their number.
 #[no_mangle]
 pub extern "C" fn lilivrez_count(buffer: &[u8], used: usize, frame: u64, out: &mut [u64; 5]) -> u32
     ensures number { λ r. ⌜ r ≡ countNumber (counting (now (buffer .entry)) used frame) ⌝ }
@@ -196,8 +198,8 @@ pub extern "C" fn lilivrez_count(buffer: &[u8], used: usize, frame: u64, out: &m
     }
 }
 
-// Finds frame number `frame` and looks at none of its records. Returns the number of the refusal, or 0. Stores the offset of the refusal, the tracepoint number,
-// the start of the frame and the length of its records.
+// Finds frame number `frame` and looks at none of its records. Returns the number of the refusal, or 0. Stores the
+// offset of the refusal, the tracepoint number, the start of the frame and the length of its records.
 #[no_mangle]
 pub extern "C" fn lilivrez_locate(buffer: &[u8], used: usize, frame: u64, out: &mut [u64; 4]) -> u32
     ensures number { λ r. ⌜ r ≡ placeNumber (located (now (buffer .entry)) used frame) ⌝ }
@@ -216,9 +218,10 @@ pub extern "C" fn lilivrez_locate(buffer: &[u8], used: usize, frame: u64, out: &
     }
 }
 
-// One step of the walker: the frame that ends at `place`. Returns the number of the refusal, or 0. Stores the offset of the refusal, the tracepoint number, the
-// start of the frame, the length of its records and the place after the step. That place is a variable of the caller: the walker's struct holds a reference,
-// and only numbers and slices cross the boundary.
+// One step of the walker: the frame that ends at `place`. Returns the number of the refusal, or 0. Stores the offset of
+// the refusal, the tracepoint number, the start of the frame, the length of its records and the place after the step.
+// That place is a variable of the caller: the walker's struct holds a reference, and only numbers and slices cross the
+// boundary.
 #[no_mangle]
 pub extern "C" fn lilivrez_walk(buffer: &[u8], place: usize, out: &mut [u64; 5]) -> u32
     ensures number { λ r. ⌜ r ≡ placeNumber (walked (now (buffer .entry)) place) ⌝ }

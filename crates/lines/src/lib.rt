@@ -95,7 +95,8 @@ fn last(fd: i32, len: usize, is_failed: bool) -> Line {
     }
 }
 
-// The next line; a last one with no line end counts too. The count of turns is there for the proof that the loop ends; no input uses it up.
+// The next line; a last one with no line end counts too. The count of turns is there for the proof that the loop ends;
+// no input uses it up.
 pub fn next(input: &mut [u8], text: &mut [u8], before: Line) -> Line {
     let fd = before.fd;
     let mut len = 0;

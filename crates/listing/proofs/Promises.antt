@@ -46,7 +46,7 @@ pub row-read-back : (at op v : ℕ) → at < 2 ^ 64 → kind-unsupported < kind 
 row-read-back at op v h s f = inverse.comment-back op (operandsOf op) v (opcodes.good-name op s) refl (inverse.word-low op v f) f at h
 
 -- `AllBytes` holds of every slice of bytes that is lent: the contract of `encoding::bytes_known`, `lent-bytes` on the
--- page of `frames`.
+-- page of the demands.
 
 -- the text of an instruction of an expression is read back as its bytes
 pub instruction-read-back : (e : List ℕ) → AllBytes e → (k : ℕ) → k < 2 ^ 64 → isInstruction e k ≡ true
@@ -84,7 +84,8 @@ row-then e low k h i = behind.row-then e low k h (texting.instructed e k i)
 pub text-outcome : (t o b : List ℕ) → readText t ≡ bytes b → length b ≤ length o → outcome t o ≡ record { answer = Bytes (length b); left = writtenAt o 0 b }
 text-outcome = outcomes.text-right
 
--- where it answers with a number of bytes, those in the buffer are the text's; where it names a line with a fault, the text has it there first
+-- where it answers with a number of bytes, those in the buffer are the text's; where it names a line with a fault, the
+-- text has it there first
 pub answered-bytes : (t o : List ℕ) (k : ℕ) → outcome t o .answer ≡ Bytes k → k ≤ length o → readText t ≡ bytes (take k (outcome t o .left))
 answered-bytes = outcomes.told-right
 

@@ -1,5 +1,7 @@
--- What users of `machine` may cite: promises R2 and R3, that records are well formed, how a run ends before it steps, and what a loop that follows the machine needs at each step.
--- The definitions that it names are in specs/: Machine (the moves), Run (a run on any input), Recorded (what its records hold); and of other crates `isa` Walk, `verifier` Acceptance.
+-- What users of `machine` may cite: promises R2 and R3, that records are well formed, how a run ends before it steps,
+-- and what a loop that follows the machine needs at each step. The definitions that it names are in specs/: Machine
+-- (the moves), Run (a run on any input), Recorded (what its records hold); and of other crates `isa` Walk, `verifier`
+-- Acceptance.
 use mathlib.Core.List.{List, []}
 use mathlib.Core.Logic.{_≢_}
 use mathlib.Core.Path.{_≡_}
@@ -26,7 +28,8 @@ use Rattle.machine.proofs.Made as made
 use Rattle.machine.proofs.Ending as ending
 use Rattle.machine.proofs.Recorded as recorded
 use Rattle.machine.proofs.WellFormed as well-formed
--- OnWalk e k s i: some walk of e from offset 0 to k arrives with the height of the stack s and has i instructions before k.
+-- OnWalk e k s i: some walk of e from offset 0 to k arrives with the height of the stack s and has i instructions
+-- before k.
 pub use Rattle.machine.proofs.Following.{OnWalk}
 
 -- ---- R2: the steps of a run
@@ -52,7 +55,8 @@ module _ (m : Fed) (v buffer : List ℕ) (used allowance : ℕ) where
   stopped-number = steps.stopped-number m v buffer used allowance
 
   -- ---- how a run begins
-  -- a refused expression ends it, with 0 steps and no records; else refused inputs do; else the machine moves from its beginning
+  -- a refused expression ends it, with 0 steps and no records; else refused inputs do; else the machine moves from its
+  -- beginning
   pub refused-early : {r k : ℕ} → verdict (m .expression) ≡ refused r k → ended m v buffer used allowance ≡ stopped r k 0 []
   refused-early = steps.refused-early m v buffer used allowance
 
@@ -134,7 +138,8 @@ completed-fits = ending.completed-fits
 pub records-from-target : (m : Fed) (v buffer : List ℕ) (used allowance : ℕ) → AllFromTarget m (recordsOf (ended m v buffer used allowance))
 records-from-target = recorded.records-from-target
 
--- the same byte by byte, where inputs are not refused: a span holds the byte's address, and the byte is the target's there
+-- the same byte by byte, where inputs are not refused: a span holds the byte's address, and the byte is the target's
+-- there
 pub spans-fine : (m : Fed) (buffer : List ℕ) (used : ℕ) → inputRefusal m buffer used ≡ 0 → spansRefusal (m .image-first) (m .image) (m .work-first) (m .work) ≡ 0
 spans-fine = made.spans-fine
 
@@ -144,6 +149,7 @@ pub recorded-byte : (m : Fed) → spansRefusal (m .image-first) (m .image) (m .w
     × (getD bytes i 0 ≡ targetByte (m .image-first) (m .image) (m .work-first) (m .work) (a + i))
 recorded-byte = recorded.recorded-byte
 
--- ---- every record of a run can be encoded and read back, of inputs that are what their types say, as any are: the contract of `typed`
+-- ---- every record of a run can be encoded and read back, of inputs that are what their types say, as any are: the
+-- contract of `typed`
 pub records-well-formed : {m : Fed} {t : ℕ} {v : List ℕ} → Typed m t v → (buffer : List ℕ) (used allowance : ℕ) → AllWellFormed (recordsOf (ended m v buffer used allowance))
 records-well-formed = well-formed.records-well-formed

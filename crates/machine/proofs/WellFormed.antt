@@ -1,4 +1,5 @@
--- Every record that a run makes is well formed: it can be encoded and read back. Cells and variables are words all along.
+-- Every record that a run makes is well formed: it can be encoded and read back. Cells and variables are words all
+-- along.
 use mathlib.Core.List.{List, [], _∷_, _++_}
 use mathlib.Core.Logic.{⊎-elim}
 use mathlib.Core.Path.{_≡_, refl}

@@ -1,4 +1,5 @@
--- What the records of a run hold (document 01, "Meanings the manual leaves open": "readable exactly if all of it lies in one span").
+-- What the records of a run hold (document 01, "Meanings the manual leaves open": "readable exactly if all of it lies
+-- in one span").
 use mathlib.Core.List.{List, [], _∷_}
 use mathlib.Core.Logic.{_⊎_}
 use Prim.Native.Nat.{ℕ, _^_, _<_}
@@ -9,7 +10,8 @@ use Rattle.memory.specs.Fetch.{PartOf}
 use Rattle.machine.specs.Fed.{Fed}
 use Rattle.machine.specs.Machine.{Ended, completed, stopped}
 
--- a memory record holds the bytes of the one span that holds every address of its range; a variable record holds no memory
+-- a memory record holds the bytes of the one span that holds every address of its range; a variable record holds no
+-- memory
 abbrev pub FromTarget : Fed → Record → Type 0
 FromTarget m (memory a bytes) = PartOf (m .image-first) (m .image) a (length bytes) bytes ⊎ PartOf (m .work-first) (m .work) a (length bytes) bytes
 FromTarget m (variable n x) = Unit {0}

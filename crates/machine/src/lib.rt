@@ -1,4 +1,5 @@
-// Document 01's machine is a definition: see specs/. The crates above follow it; here is only what makes known that its inputs are what their types say.
+// Document 01's machine is a definition: see specs/. The crates above follow it; here is only what makes known that its
+// inputs are what their types say.
 ghost use Rattle.machine.specs.Fed.{fed};
 ghost use Rattle.machine.specs.Recorded.{Typed};
 

@@ -1,5 +1,6 @@
--- What users of `memory` may cite, each law stated in full and proved where it is named. The contracts of src/lib.rt are the rest.
--- The program image is the bytes `image` at the address f, the working memory the bytes `work` at g. A range is k bytes at the address a.
+-- What users of `memory` may cite, each law stated in full and proved where it is named. The contracts of src/lib.rt
+-- are the rest. The program image is the bytes `image` at the address f, the working memory the bytes `work` at g. A
+-- range is k bytes at the address a.
 use mathlib.Core.Bool.{true, false, cond}
 use mathlib.Core.List.{List, []}
 use mathlib.Core.Logic.{_↔_, _≢_, _⊎_}
@@ -93,7 +94,8 @@ module _ (f : ℕ) (image : List ℕ) (g : ℕ) (work : List ℕ) where
     pub fetched-part : fetchRefusal f image g work a k ≡ 0 → 1 ≤ k → PartOf f image a k (fetched f image g work a k) ⊎ PartOf g work a k (fetched f image g work a k)
     fetched-part = fetching.fetched-part f image g work a k
 
-  -- ---- the bytes from an address to the end of its span, where neither 12 nor 13 is met: all that ref, trace and tracenz read
+  -- ---- the bytes from an address to the end of its span, where neither 12 nor 13 is met: all that ref, trace and
+  -- tracenz read
   module _ (fine : spansRefusal f image g work ≡ 0) (a : ℕ) where
     -- a range of a byte or more is readable exactly if it is no longer
     pub rest-test : (k : ℕ) → 1 ≤ k → readable f image g work a k ≡ leb k (length (restOf f image g work a))

@@ -1,4 +1,5 @@
--- Reading target memory: document 01, "Meanings the manual leaves open", and refusal 19. A range is a number k of bytes at an address a.
+-- Reading target memory: document 01, "Meanings the manual leaves open", and refusal 19. A range is a number k of bytes
+-- at an address a.
 use mathlib.Core.Bool.{Bool, cond, not, _&&_, _||_}
 use mathlib.Core.List.{List, [], _∷_, _++_}
 use mathlib.Core.Logic.{_⊎_}
@@ -38,7 +39,8 @@ fetched f image g work a k =
 abbrev pub InTarget : ℕ → List ℕ → ℕ → List ℕ → ℕ → Type 0
 InTarget f image g work x = InSpan f (length image) x ⊎ InSpan g (length work) x
 
--- the target's byte at the address x, which a span holds (`InTarget`); 0 where none does, so that this alone does not say that there is a byte
+-- the target's byte at the address x, which a span holds (`InTarget`); 0 where none does, so that this alone does not
+-- say that there is a byte
 unfoldable pub targetByte : ℕ → List ℕ → ℕ → List ℕ → ℕ → ℕ
 targetByte f image g work x = whichever f image g work x 1 (λ first bytes. getD bytes (x - first) 0) 0
 

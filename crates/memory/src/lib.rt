@@ -68,8 +68,9 @@ pub fn holds_range(first: u64, len: u64, address: u64, size: u64) -> bool
     size <= len - (address - first)
 }
 
-// The bytes from `address` to the end of the span that holds it; none where no span does: all that `fetch` and the instructions lend. No span ends past
-// 2^64, so that one comparison, of the difference modulo 2^64, tells whether a span holds the address.
+// The bytes from `address` to the end of the span that holds it; none where no span does: all that `fetch` and the
+// instructions lend. No span ends past 2^64, so that one comparison, of the difference modulo 2^64, tells whether a
+// span holds the address.
 pub fn rest<'a>(
     image_first: u64,
     image: &'a [u8],
@@ -150,8 +151,8 @@ fn smaller(a: usize, b: usize) -> usize
     b
 }
 
-// Whether one of the `count` bytes from `at` on is zero. Every one is looked at, so that the compiler compares them all at once where `count`
-// is a literal.
+// Whether one of the `count` bytes from `at` on is zero. Every one is looked at, so that the compiler compares them all
+// at once where `count` is a literal.
 fn has_zero(bytes: &[u8], at: usize, count: usize) -> bool
     requires { ⌜ at + count ≤ length (now bytes) ⌝ }
     ensures { λ r. ⌜ Looked (now (bytes .entry)) at count r ⌝ }
@@ -167,7 +168,8 @@ fn has_zero(bytes: &[u8], at: usize, count: usize) -> bool
     found
 }
 
-// Passes blocks of 8 among the first `limit` bytes, up to one that has a zero, and answers how many bytes it has passed.
+// Passes blocks of 8 among the first `limit` bytes, up to one that has a zero, and answers how many bytes it has
+// passed.
 fn before_zero(bytes: &[u8], limit: usize) -> usize
     requires { ⌜ limit ≤ length (now bytes) ⌝ }
     ensures { λ r. ⌜ Passed (now (bytes .entry)) limit r ⌝ }

@@ -15,8 +15,8 @@ pub fn print_error(why: &[u8]) {
     print_aside(b"\n");
 }
 
-// Where standard output takes no more (a full disk), one error says so. A program cannot end here, so standard error is closed behind it: else every later line would
-// bring the same error.
+// Where standard output takes no more (a full disk), one error says so. A program cannot end here, so standard error is
+// closed behind it: else every later line would bring the same error.
 pub fn print(text: &[u8]) {
     if !io::write_all(STDOUT_FILENO, text) {
         print_error(b"standard output cannot be written");

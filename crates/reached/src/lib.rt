@@ -1,5 +1,6 @@
 // A caller of the verifier that leans on its page of promises alone: it reads the instruction that a walk has reached.
-// It shows that the page is enough for a runner: opcode and operand are in bounds, the cells are there, the result fits.
+// It shows that the page is enough for a runner: opcode and operand are in bounds, the cells are there, the result
+// fits.
 ghost use mathlib.Core.Path.{_≡_};
 ghost use Rattle.isa.specs.Rows.{table};
 ghost use Rattle.verifier.specs.Verdict.{verdict};

@@ -1,4 +1,5 @@
--- Laws of bytes written in hexadecimal, for the proofs of the functions of `hex`, and that they are read back. Assumes nothing.
+-- Laws of bytes written in hexadecimal, for the proofs of the functions of `hex`, and that they are read back. Assumes
+-- nothing.
 use Prim.Native.Nat.{ℕ, zero, suc, _+_, _-_, _/_, _%_, _≤_, _<_}
 use native.Mathlib.Nat.{mod-lt, div-add-mod'}
 use native.Mathlib.Omega.{arith}

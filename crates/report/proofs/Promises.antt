@@ -13,13 +13,14 @@ use Rattle.report.proofs.HexInverse as inverse
 use Rattle.report.proofs.Lists as lists
 
 -- `AllBytes` holds of every slice of bytes that is lent: the contract of `encoding::bytes_known`, `lent-bytes` on the
--- page of `frames`.
+-- page of the demands.
 
 -- bytes written in hexadecimal are read back, where there is room for them
 pub hex-read-back : (l : List ℕ) (room : ℕ) → AllBytes l → length l ≤ room → readingOf (hexOf l) room ≡ record { bytes = l; end = whole }
 hex-read-back l room low h = writing.hex-back 0 room l low h
 
--- a text of 2 n lower-case digits is read whole, where there is room for n bytes, and the bytes that were read are written as the same text
+-- a text of 2 n lower-case digits is read whole, where there is room for n bytes, and the bytes that were read are
+-- written as the same text
 pub hex-write-back : (t : List ℕ) (n room : ℕ) → allLower t ≡ true → length t ≡ 2 * n → n ≤ room → (readingOf t room .end ≡ whole) × (hexOf (readingOf t room .bytes) ≡ t)
 hex-write-back t n room low e h = inverse.write-back 0 room n t low e h
 
@@ -81,7 +82,8 @@ one s p = record { text = p }
 pub more : {b b' b'' : List ℕ} {n n' n'' : ℕ} {s : List ℕ} → Appended b n s b' n' → (t : List ℕ) → Appends b' n' t b'' n'' → Appended b n (s ++ t) b'' n''
 more {s = s} p t q = record { text = appending.appends-then s t (p .text) q }
 
--- ---- a loop that appends a text part by part: what is appended from here on is the rest of what is appended from the start on
+-- ---- a loop that appends a text part by part: what is appended from here on is the rest of what is appended from the
+-- start on
 pub record Going (b₀ : List ℕ) (at : ℕ) (all rest b : List ℕ) (n : ℕ) : Type 0 where
   pub size : length b ≡ length b₀
   pub inside : n ≤ length b

@@ -47,7 +47,8 @@ follow-by m go st (leaves cells rs) true q = rw (q, onward) refl
 follow-by m go st (leaves cells rs) false q = rw (q, onward) refl
 follow-by m go st (faults n) b q = refl
 
--- what the code holds: its own variables v, buffer b, cells a, height h, offset k, the end p of what is written, and n steps
+-- what the code holds: its own variables v, buffer b, cells a, height h, offset k, the end p of what is written, and n
+-- steps
 pub record Loop (m : Fed) (b₀ : List ℕ) (u : ℕ) (g : List ℕ) (max : ℕ) (v b : List ℕ) (a : List ℕ) (h k p n : ℕ) : Type 0 where
   pub records : List Record
   pub walk : OnWalk (m .expression) k (held a h) n

@@ -1,5 +1,6 @@
--- What users of `runner` may cite. R1 is the contract of `run` and of `run_default` in src/lib.rt: on any input whatever, the answer, the variables and every
--- byte of the buffer are those of document 01's machine (`ended`), completed or refused. The rest follows from it, for any run r that has ended as the machine.
+-- What users of `runner` may cite. R1 is the contract of `run` and of `run_default` in src/lib.rt: on any input
+-- whatever, the answer, the variables and every byte of the buffer are those of document 01's machine (`ended`),
+-- completed or refused. The rest follows from it, for any run r that has ended as the machine.
 use mathlib.Core.List.{List}
 use mathlib.Core.Path.{_≡_}
 use Prim.Native.Nat.{ℕ, _+_, _≤_}
@@ -19,7 +20,8 @@ use Rattle.runner.specs.declared.Outcome.the-variants.{Completed, Refuse
 use Rattle.runner.proofs.Reporting as reporting
 
 module _ {m : Fed} {t : ℕ} {v b : List ℕ} {u allowance : ℕ} {r : Outcome} {v′ b′ : List ℕ} (ran : Ran m t v b u allowance r v′ b′) where
-  -- ---- R2, demand 3: the steps are the machine's, at most the allowance, and at most the longest walk that the verifier told
+  -- ---- R2, demand 3: the steps are the machine's, at most the allowance, and at most the longest walk that the
+  -- verifier told
   pub steps-machine : stepsReported r ≡ stepsOf (ended m v b u allowance)
   steps-machine = reporting.steps-machine ran
 

@@ -1,6 +1,6 @@
--- What a run returns (document 01, "Running"): "A completed run returns the answer, the steps and the variables as set; .. the used length grows by exactly
--- what was written. A refusal returns its number, the offset (0 for 1 and 12–15) and the steps done (0 where
--- nothing ran). Variables and used length are as given."
+-- What a run returns (document 01, "Running"): "A completed run returns the answer, the steps and the variables as set;
+-- .. the used length grows by exactly what was written. A refusal returns its number, the offset (0 for 1 and 12–15)
+-- and the steps done (0 where nothing ran). Variables and used length are as given."
 use mathlib.Core.List.{List}
 use mathlib.Core.Path.{_≡_}
 use Prim.Native.Nat.{ℕ}

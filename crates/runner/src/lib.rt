@@ -54,9 +54,10 @@ fn close_frame(buffer: &mut [u8], put: usize, tracepoint: u16, size: usize)
     frames::trailer::append_trailer(buffer, put, tracepoint, size as u32);
 }
 
-// A run of an accepted expression on inputs that 12 to 15 allow. It works on a copy of the variables, which is written back on completion alone.
-// What is left of the allowance is counted down, so that one machine instruction both counts and tests.
-// Where a step stops, its answer has the offset and the end of what is written as they were: so they are taken before `stop` is tested.
+// A run of an accepted expression on inputs that 12 to 15 allow. It works on a copy of the variables, which is written
+// back on completion alone. What is left of the allowance is counted down, so that one machine instruction both counts
+// and tests. Where a step stops, its answer has the offset and the end of what is written as they were: so they are
+// taken before `stop` is tested.
 fn run_accepted<'a>(
     rows: &[[u8; 4]; 53],
     code: &[u8],
@@ -145,8 +146,8 @@ fn inputs_refusal(
     0
 }
 
-// Verifies the expression, checks the inputs, and runs it: at most `allowance` instructions.
-// The loop has a table of its own, which no opcode that varies is looked up in: so the compiler knows each row that an arm reads.
+// Verifies the expression, checks the inputs, and runs it: at most `allowance` instructions. The loop has a table of
+// its own, which no opcode that varies is looked up in: so the compiler knows each row that an arm reads.
 pub fn run<'a>(
     code: &[u8],
     registers: &[u64],

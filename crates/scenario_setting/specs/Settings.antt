@@ -1,4 +1,5 @@
--- What the lines of a scenario have set (the manual, "Running a scenario"). "What is set stays set for the runs that follow."
+-- What the lines of a scenario have set (the manual, "Running a scenario"). "What is set stays set for the runs that
+-- follow."
 use Prim.Native.Nat.{ℕ, _+_, max}
 use Prim.Native.String.{String}
 use mathlib.Core.Bool.{Bool, true, false, cond}
@@ -55,7 +56,8 @@ abbrev pub withUsed : Setting → ℕ → Setting
 withUsed s n = setting (s .registers) (s .image) (s .memory) (s .tracepoint) (buffer (s .buffer .size) n) (s .allowance) (s .«is_stopped»)
 
 -- ---- the lines that set a number: n is that of a register or variable, v the value
--- "`register`: 0 to 255. As many are lent as the highest number set, and one more"; a higher number, which no line has, changes nothing
+-- "`register`: 0 to 255. As many are lent as the highest number set, and one more"; a higher number, which no line has,
+-- changes nothing
 unfoldable pub lentWith : ℕ → ℕ → ℕ
 lentWith n lent = cond (ltb n 256) (max lent (n + 1)) lent
 

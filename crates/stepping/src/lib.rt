@@ -1,5 +1,5 @@
-// One step of the machine: the instruction at an offset, by one arm for each opcode. The arm names the opcode, so that its row is known when this is compiled.
-// No expression that is accepted has the opcodes of the last three arms.
+// One step of the machine: the instruction at an offset, by one arm for each opcode. The arm names the opcode, so that
+// its row is known when this is compiled. No expression that is accepted has the opcodes of the last three arms.
 ghost use mathlib.Core.Path.{_≡_};
 ghost use Prim.Native.Nat.{_+_, _-_, _≤_, _<_};
 ghost use lib.ListN.{length, getD};
@@ -32,8 +32,9 @@ fn do_end(buffer: &[u8], at: usize, height: usize, put: usize) -> Next
     }
 }
 
-// The key of an instruction's arm: its opcode with the two top bits set, which no opcode of an accepted expression has. The sum tells the compiler
-// that there are 64 keys, and `step` has an arm for each: so a step needs no test whether the jump table has an entry.
+// The key of an instruction's arm: its opcode with the two top bits set, which no opcode of an accepted expression has.
+// The sum tells the compiler that there are 64 keys, and `step` has an arm for each: so a step needs no test whether
+// the jump table has an entry.
 fn key_at(code: &[u8], at: usize) -> u8
     requires { ⌜ at < length (now code) ⌝ ∗ ⌜ getD (now code) at 0 < 64 ⌝ }
     ensures { λ r. ⌜ r ≡ getD (now (code .entry)) at 0 + 0xc0 ⌝ }

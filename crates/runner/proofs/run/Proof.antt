@@ -40,8 +40,8 @@ unfolding inputRefusal table rowsFrom classOf opcodes
 run-accepted-requires c κs =
     let v = c .before .before .before .before .before .before .before .before .before in
     let s = v .before .before .before .before .before .before .before .before in
-    let z = inputs-fit (fed (now (s .args .code)) (now (s .args .registers)) (s .args .image-first) (now (s .args .image)) (s .args .work-first) (now (s .args .work))) (now (s .args .buffer)) (s .args .used)
-    (sym (c .before .before .before .before .inputs-refusal .ensures) ∙ c .before .before .before .if1 .left) in
+    let z = inputs-fit (fed (now (s .args .code)) (now (s .args .registers)) (s .args .image-first) (now (s .args .image)) (s .args .work-first) (now (s .args .work)))
+    (now (s .args .buffer)) (s .args .used) (sym (c .before .before .before .before .inputs-refusal .ensures) ∙ c .before .before .before .if1 .left) in
     (refl, is-accepted (sym (v .verify .ensures) ∙ ap verdictOf (c .before .before .before .before .before .before .before .count .given .1)), z .0, z .1, z .2)
 
 returns-2 : tie.Need-returns-2

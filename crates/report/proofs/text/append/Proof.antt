@@ -1,4 +1,5 @@
--- `report::text::append` meets its contract. The loop's invariant: the first i bytes are appended. The measure is what is left of them. Assumes nothing.
+-- `report::text::append` meets its contract. The loop's invariant: the first i bytes are appended. The measure is what
+-- is left of them. Assumes nothing.
 use borrow.Author.Needs.{needs}
 use native.Mathlib.Omega.{arith}
 use Prim.Native.Nat.{_-_}

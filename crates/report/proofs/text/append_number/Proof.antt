@@ -1,4 +1,5 @@
--- `report::text::append_number` meets its contract: the bytes appended are the digits that `io::decimal` ensures. Assumes nothing.
+-- `report::text::append_number` meets its contract: the bytes appended are the digits that `io::decimal` ensures.
+-- Assumes nothing.
 use borrow.Author.Needs.{needs}
 use Rattle.report.proofs.Appending.{appends-same}
 use Rattle.report.proofs.text.append_number.Statement.{statement}
