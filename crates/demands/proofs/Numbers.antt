@@ -3,9 +3,8 @@ use mathlib.Core.Bool.{Bool, true, false, cond, not, _&&_, _||_}
 use mathlib.Core.List.{List, [], _∷_, _++_, map}
 use mathlib.Core.Logic.{_⊎_, _↔_, _≢_, inl, inr, ⊎-elim}
 use mathlib.Core.Path.{_≡_, refl, sym}
-use Prim.Native.Nat.{ℕ, zero, suc, _≤_, _<_}
+use Prim.Native.Nat.{ℕ, _≤_, _<_}
 use native.Mathlib.Omega.{arith}
-use native.Mathlib.Decide.{ℕ-discrete}
 use lib.Dec.{T, ltb, eqb}
 use borrow.Author.Tests.{eqb-true, ne-eqb}
 use Rattle.encoding.specs.Tried.{tried}
@@ -14,7 +13,7 @@ use Rattle.encoding.specs.LittleEndian.{littleEndian, littleBytes}
 use Rattle.isa.specs.Classes.{opcodes, classOf}
 use Rattle.isa.specs.Decode.{operand, picked, needed, left, heightAfter}
 use Rattle.isa.specs.Starts.{startsAtMost, startsFrom, isStart}
-use Rattle.encoding.proofs.Promises.{and-left, and-right}
+use Rattle.encoding.proofs.Promises.{and-left, and-right, up-to}
 use Rattle.memory.specs.Spans.{endsPast, shareAddress, spanTests}
 use Rattle.memory.specs.Fetch.{holdsRange, readable, fetchRefusal}
 use Rattle.frames.specs.Record.{encode, encodeAll, decodeMemory, decodeVariable, decode}
@@ -41,15 +40,6 @@ use Rattle.demands.specs.Refusals.{Entry, verify, fetch, run, run-defaul
 use Rattle.demands.specs.Attained.{examples}
 
 -- ---- none else
--- a test that holds of all numbers below n
-abbrev upTo : ℕ → (ℕ → Bool) → Bool
-upTo zero p = true
-upTo (suc n) p = p n && upTo n p
-
-up-to : (p : ℕ → Bool) (n r : ℕ) → T (upTo n p) → r < n → T (p r)
-up-to p zero r t h = absurd (omega arith)
-up-to p (suc n) r t h = elim (ℕ-discrete r n) [ yes q ↦ rw q (and-left (p n) (upTo n p) t) | no q ↦ up-to p n r (and-right (p n) (upTo n p) t) (omega arith) ]
-
 -- tests tried in order give one of their numbers, or 0
 abbrev allOf : (ℕ → Bool) → List (Bool × ℕ) → Bool
 allOf p [] = p 0
@@ -68,14 +58,14 @@ not-that b r n h t = rw (ne-eqb r n h) at t
 
 listed : (x : Entry) (i : Inputs x) → T (among (0 ∷ numbersOf x) (number x i))
 unfolding table fetchRefusal
-listed verify e = up-to (among (0 ∷ numbersOf verify)) 12 (number verify e) tt (omega (arith, verifier.number-most e))
+listed verify e = up-to 12 (among (0 ∷ numbersOf verify)) tt (number verify e) (omega (arith, verifier.number-most e))
 listed fetch i =
     tried-in (among (0 ∷ numbersOf fetch)) (spanTests (i .0) (i .1) (i .2) (i .3) ++ ((ltb 0 (i .5) && not (readable (i .0) (i .1) (i .2) (i .3) (i .4) (i .5)), 19) ∷ [])) tt
-listed run i = up-to (among (0 ∷ numbersOf run)) 22 (number run i) tt (omega (arith, agent.number-most (i .0) (i .1) (i .2) (i .3) (i .4)))
+listed run i = up-to 22 (among (0 ∷ numbersOf run)) tt (number run i) (omega (arith, agent.number-most (i .0) (i .1) (i .2) (i .3) (i .4)))
 listed run-default i =
     not-that (among (0 ∷ numbersOf run-default) (number run-default i)) (number run-default i) 16
     (machine.bytes-enough (i .0) (i .1) (i .2) (i .3) defaultAllowance (omega arith))
-    (up-to (λ (r : ℕ). eqb r 16 || among (0 ∷ numbersOf run-default) r) 22 (number run-default i) tt
+    (up-to 22 (λ (r : ℕ). eqb r 16 || among (0 ∷ numbersOf run-default) r) tt (number run-default i)
     (omega (arith, agent.number-most (i .0) (i .1) (i .2) (i .3) defaultAllowance)))
 listed read i = agent.read-number (i .0) (i .1) (i .2) (i .3)
 listed count i = agent.count-number (i .0) (i .1) (i .2)

@@ -2,13 +2,13 @@
 use mathlib.Core.Bool.{Bool, true, false, not, cond, _&&_}
 use mathlib.Core.List.{List, [], _∷_, _++_}
 use mathlib.Core.Path.{_≡_, refl}
-use Prim.Native.Nat.{ℕ, _+_, _-_, _^_, _≤_, _<_, zero-le}
+use Prim.Native.Nat.{ℕ, zero, suc, _+_, _-_, _^_, _≤_, _<_, zero-le}
 use native.Mathlib.Omega.{arith}
-use native.Mathlib.Decide.{decLt}
+use native.Mathlib.Decide.{decLt, ℕ-discrete}
 use lib.ListN.{length, take, drop, set}
 use lib.Dec.{T, leb, ltb, leb→le, ltb→lt}
 use borrow.Author.Tests.{not-true, not-false}
-use Rattle.encoding.specs.Tried.{tried, numbered, NoneHolds, Decides}
+use Rattle.encoding.specs.Tried.{tried, numbered, NoneHolds, upTo, Decides}
 use Rattle.encoding.specs.BigEndian.{bigEndian}
 use Rattle.encoding.specs.LittleEndian.{littleEndian, littleBytes}
 use Rattle.encoding.specs.Written.{writtenAt}
@@ -34,6 +34,15 @@ and-left false b t = t
 pub and-right : (a b : Bool) → T (a && b) → T b
 and-right true b t = t
 and-right false b t = absurd t
+
+-- a test that holds of every number below n holds of k
+pub up-to : (n : ℕ) (f : ℕ → Bool) → T (upTo n f) → (k : ℕ) → k < n → T (f k)
+up-to zero f t k h = absurd (omega arith)
+up-to (suc n) f t k h =
+    elim (ℕ-discrete k n) [
+      | yes e ↦ rw e (and-left (f n) (upTo n f) t)
+      | no e ↦ up-to n f (and-right (f n) (upTo n f) t) k (omega arith)
+    ]
 
 -- ---- the code's answer to `a ≤ b`, negated
 pub not-fails : {r : Bool} {a b : ℕ} → Decides r a b → not r ≡ true → b < a

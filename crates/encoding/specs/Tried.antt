@@ -1,8 +1,9 @@
--- Tests, and tests tried in their order. Document 01 says "refusals 2 to 5, tried in that order at an offset", and the like of each pass and of a run.
+-- Tests, and tests tried in their order. Document 01 says "refusals 2 to 5, tried in that order at an offset", and the
+-- like of each pass and of a run.
 use mathlib.Core.Bool.{Bool, true, false, cond, _&&_}
 use mathlib.Core.List.{List, [], _∷_}
 use mathlib.Core.Path.{_≡_}
-use Prim.Native.Nat.{ℕ, _≤_, _<_}
+use Prim.Native.Nat.{ℕ, zero, suc, _≤_, _<_}
 use lib.Dec.{ltb}
 
 -- the number of the first test that holds, or 0
@@ -19,6 +20,11 @@ numbered (t ∷ ts) = ltb 0 (t .1) && numbered ts
 abbrev pub NoneHolds : List (Bool × ℕ) → Type 0
 NoneHolds [] = Unit {0}
 NoneHolds (t ∷ ts) = (t .0 ≡ false) × NoneHolds ts
+
+-- the test f holds of every number below n
+abbrev pub upTo : ℕ → (ℕ → Bool) → Bool
+upTo zero f = true
+upTo (suc n) f = f n && upTo n f
 
 -- r answers whether a ≤ b
 pub record Decides (r : Bool) (a b : ℕ) : Type 0 where

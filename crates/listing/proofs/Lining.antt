@@ -9,8 +9,8 @@ use lib.ListN.{length, take, drop, set, getD, length-set}
 use lib.Seq.{getD-take, getD-drop}
 use borrow.Author.Tests.{eq-eqb, ne-eqb, lt-ltb, le-ltb, ltb-true}
 use Rattle.encoding.specs.Written.{writtenAt}
-use Rattle.encoding.proofs.Promises.{written-store, written-more, written-length}
-use Rattle.isa.specs.Document.{below}
+use Rattle.encoding.proofs.Promises.{up-to, written-store, written-more, written-length}
+use Rattle.encoding.specs.Tried.{upTo}
 use Rattle.isa.specs.Classes.{opcodes, classOf}
 use Rattle.listing.specs.Names.{opcodeOf}
 use Rattle.words.specs.Words.{Word, firstWord, behind, IsAt}
@@ -25,7 +25,6 @@ use Rattle.listing.specs.declared.reading.Line.{Line}
 use Rattle.listing.specs.declared.reading.Line.the-variants.{Nothing, Instruction, Wrong}
 use Rattle.listing.specs.declared.reading.Read.the-variants.{Bytes, NoRoom}
 use Rattle.words.proofs.Promises.{no-word, a-word}
-use Rattle.listing.proofs.Opcodes.{below-at}
 
 -- ---- the line goes on behind a word as the code goes on
 goes-on : {line : List ℕ} {r : Place} {w : Word} → IsAt line r w → (f : ℕ → List ℕ → Line) → f (r .end) (drop (r .end) line) ≡ f (behind w) (w .rest)
@@ -136,13 +135,13 @@ module _ {line : List ℕ} {r : Place} (at : ℕ) (i : IsAt line r (firstWord 0 
       line-not e = ap (Wrong WrongOffset) (i .start-is) ∙ ap (byOffset at (firstWord 0 line)) (sym e) ∙ by-offset
 
 -- ---- operand bytes are 1, 2, 4 or 8
-operands-width : T (below 53 (λ op. cond (eqb (operandsOf op) 0) true (isWidth (operandsOf op))))
+operands-width : T (upTo 53 (λ op. cond (eqb (operandsOf op) 0) true (isWidth (operandsOf op))))
 unfolding opcodes classOf isWidth
 operands-width = tt
 
 pub width-of : (op count : ℕ) → op < 53 → count ≡ operandsOf op → (count ≡ 0 → ⊥) → T (isWidth count)
 width-of op count h e n =
-    let t = below-at 53 (λ op. cond (eqb (operandsOf op) 0) true (isWidth (operandsOf op))) operands-width op h in
+    let t = up-to 53 (λ op. cond (eqb (operandsOf op) 0) true (isWidth (operandsOf op))) operands-width op h in
     rw e (rw (ne-eqb (operandsOf op) 0 (λ z. n (e ∙ z))) at t)
 
 -- ---- `store`

@@ -12,9 +12,9 @@ use lib.Dec.{T, eqb, leb, ltb, eqb→eq, eqb-refl, ltb→lt, leb→le}
 use lib.ListN.{length, getD, drop, take, drop-of-length-le, List·getD-eq-default}
 use lib.Seq.{drop-cons}
 use borrow.Author.Tests.{lt-ltb}
-use Rattle.encoding.proofs.Promises.{and-left, and-right, cases}
+use Rattle.encoding.specs.Tried.{upTo}
+use Rattle.encoding.proofs.Promises.{and-left, and-right, cases, up-to}
 use Rattle.isa.specs.Classes.{kind-unsupported, kind, classOf, opcodes}
-use Rattle.isa.specs.Document.{below}
 use Rattle.isa.proofs.Promises.{known-low}
 use Rattle.report.specs.Hex.{isBlank}
 use Rattle.words.specs.Words.{leading, isInWord, sameBytes, placeFrom}
@@ -23,24 +23,15 @@ use Rattle.words.proofs.Promises.{same-sound}
 use Rattle.listing.specs.Names.{names, nameOf, opcodeOf, table}
 use Rattle.listing.specs.Meant.{isNot}
 
--- ---- a test of every opcode below n
-pub below-at : (n : ℕ) (f : ℕ → Bool) → T (below n f) → (k : ℕ) → k < n → T (f k)
-below-at zero f t k h = absurd (not-suc-le-zero h)
-below-at (suc n) f t k h =
-    elim (ℕ-discrete k n) [
-      | yes e ↦ subst (λ (x : ℕ). T (f x)) (sym e) (and-left (f n) (below n f) t)
-      | no e ↦ below-at n f (and-right (f n) (below n f) t) k (omega arith)
-    ]
-
 -- ---- a row of the code's table is the name up to the first space
-rows-right : T (below 53 (λ op. sameBytes (take (leading isInWord (getD table op [])) (getD table op [])) (nameOf op)))
+rows-right : T (upTo 53 (λ op. sameBytes (take (leading isInWord (getD table op [])) (getD table op [])) (nameOf op)))
 unfolding table names nameOf isInWord isBlank
 rows-right = tt
 
 pub name-row : (op : ℕ) → op < 53 → take (leading isInWord (getD table op [])) (getD table op []) ≡ nameOf op
 name-row op h =
     same-sound _ _
-    (below-at 53 (λ op. sameBytes (take (leading isInWord (getD table op [])) (getD table op [])) (nameOf op)) rows-right op h)
+    (up-to 53 (λ op. sameBytes (take (leading isInWord (getD table op [])) (getD table op [])) (nameOf op)) rows-right op h)
 
 -- ---- the loop of `find`: no name below op is w
 pub record Finding (w : List ℕ) (op : ℕ) : Type 0 where
@@ -83,14 +74,14 @@ unfolding nameOf
 name-none op h = let l : length names ≤ op = omega (arith, names-length) in rw (List·getD-eq-default names "" l)
 
 -- ---- a name has at most 13 characters
-names-short : T (below 53 (λ op. leb (length (nameOf op)) 13))
+names-short : T (upTo 53 (λ op. leb (length (nameOf op)) 13))
 unfolding names nameOf
 names-short = tt
 
 pub name-length : (op : ℕ) → length (nameOf op) ≤ 13
 name-length op =
     cases op 53
-    (λ h. leb→le (length (nameOf op)) 13 (below-at 53 (λ op. leb (length (nameOf op)) 13) names-short op h))
+    (λ h. leb→le (length (nameOf op)) 13 (up-to 53 (λ op. leb (length (nameOf op)) 13) names-short op h))
     (λ h. omega (arith, ap length (name-none op h)))
 
 -- ---- a supported opcode: its name is a plain word that does not begin with a digit, and is the name of no opcode before it
@@ -99,7 +90,7 @@ nameGood op =
     cond (ltb kind-unsupported (kind (classOf op)))
     (eqb (opcodeOf (nameOf op)) op && (all isInWord (nameOf op) && (all isPlain (nameOf op) && ltb 0 (length (nameOf op))))) true
 
-names-good : T (below 53 nameGood)
+names-good : T (upTo 53 nameGood)
 unfolding opcodeOf placeFrom names nameOf isInWord isBlank opcodes classOf
 names-good = tt
 
@@ -113,7 +104,7 @@ pub record GoodName (op : ℕ) : Type 0 where
 pub good-name : (op : ℕ) → kind-unsupported < kind (classOf op) → GoodName op
 good-name op h =
     let l = known-low op (omega arith) in
-    let t = rw (lt-ltb kind-unsupported (kind (classOf op)) h) at (below-at 53 nameGood names-good op l) in
+    let t = rw (lt-ltb kind-unsupported (kind (classOf op)) h) at (up-to 53 nameGood names-good op l) in
     let back = eqb (opcodeOf (nameOf op)) op in
     let word = all isInWord (nameOf op) in
     let plain = all isPlain (nameOf op) in
@@ -129,14 +120,14 @@ good-name op h =
     }
 
 -- ---- a row t of the table as the code reads it
-rows-wide : T (below 53 (λ op. eqb (length (getD table op [])) 13))
+rows-wide : T (upTo 53 (λ op. eqb (length (getD table op [])) 13))
 unfolding table names
 rows-wide = tt
 
 module _ (t : List (List ℕ)) (op : ℕ) (is : t ≡ table) (h : op < 53) where
   pub row-length : 13 ≡ length (getD t op [])
   row-length =
-      rw is (sym (eqb→eq (length (getD table op [])) 13 (below-at 53 (λ op. eqb (length (getD table op [])) 13) rows-wide op h)))
+      rw is (sym (eqb→eq (length (getD table op [])) 13 (up-to 53 (λ op. eqb (length (getD table op [])) 13) rows-wide op h)))
 
   module _ (n : ℕ) (count : n ≡ leading isInWord (getD t op [])) where
     pub row-name : take (n - 0) (getD t op []) ≡ nameOf op
