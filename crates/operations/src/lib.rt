@@ -1,5 +1,5 @@
-// The instructions that neither record nor set a variable by themselves, one function for each class. Each is lent the cells and told the height;
-// it says nothing of steps, allowance or records so far.
+// The instructions that neither record nor set a variable by themselves, one function for each class. Each is lent the
+// cells and told the height; it says nothing of steps, allowance or records so far.
 ghost use mathlib.Core.Bool.{cond, false};
 ghost use mathlib.Core.List.{_∷_, []};
 ghost use mathlib.Core.Path.{_≡_};
@@ -19,7 +19,8 @@ ghost use Rattle.operations.specs.Here.{Here};
 ghost use Rattle.operations.specs.Moved.{Moved};
 use isa::Stack;
 
-// What an instruction leaves: the next offset, the height, the end of what is written, and 0, or 1 at an end, or a refusal's number.
+// What an instruction leaves: the next offset, the height, the end of what is written, and 0, or 1 at an end, or a
+// refusal's number.
 pub struct Next {
     pub at: usize,
     pub height: usize,
@@ -27,7 +28,8 @@ pub struct Next {
     pub stop: u8,
 }
 
-// The next start, by the row of the opcode. A caller names the opcode by a literal, so that the row is known when this is compiled.
+// The next start, by the row of the opcode. A caller names the opcode by a literal, so that the row is known when this
+// is compiled.
 pub fn next_of(rows: &[[u8; 4]; 53], opcode: u8, at: usize) -> usize
     requires { ⌜ now rows ≡ table ⌝ ∗ ⌜ opcode < 53 ⌝ ∗ ⌜ at < 1024 ⌝ }
     ensures { λ r. ⌜ r ≡ at + 1 + getD (row (classOf opcode)) 0 0 ⌝ }
@@ -213,7 +215,8 @@ pub fn do_zero_ext(
     }
 }
 
-// ref8 to ref64: `count` bytes at the address on top. Neither 12 nor 13 is met, so that the bytes from there to the end of the span decide.
+// ref8 to ref64: `count` bytes at the address on top. Neither 12 nor 13 is met, so that the bytes from there to the end
+// of the span decide.
 pub fn do_ref<'a>(
     rows: &[[u8; 4]; 53],
     code: &[u8],

@@ -1,4 +1,5 @@
-// The instructions that record: trace, tracenz, trace_quick, trace16 and tracev. `put` is the end of what is written in the whole buffer.
+// The instructions that record: trace, tracenz, trace_quick, trace16 and tracev. `put` is the end of what is written in
+// the whole buffer.
 ghost use mathlib.Core.List.{_∷_, []};
 ghost use mathlib.Core.Path.{_≡_};
 ghost use Prim.Native.Nat.{_-_, _≤_, min};
@@ -213,10 +214,10 @@ pub fn do_tracenz<'a>(
     onward(recorded, at, height, next, after)
 }
 
-// trace_quick and trace16: the size is the operand; the address stays on top. The next start is computed last: if the compiler kept it beside the
-// offset while the record is made, every step of a run would cost two machine instructions more.
-// Both rows need and leave one cell. The height is not computed from them: then the compiler would no longer place this
-// function inside `step`.
+// trace_quick and trace16: the size is the operand; the address stays on top. The next start is computed last: if the
+// compiler kept it beside the offset while the record is made, every step of a run would cost two machine instructions
+// more. Both rows need and leave one cell. The height is not computed from them: then the compiler would no longer
+// place this function inside `step`.
 pub fn do_trace_quick<'a>(
     rows: &[[u8; 4]; 53],
     code: &[u8],

@@ -1,5 +1,5 @@
-// Pass 3: the heights of the stack in rising offset, and with them the greatest height and the longest walk. From one start to the next
-// height and distance go along in locals; the tables hold what jumps bring.
+// Pass 3: the heights of the stack in rising offset, and with them the greatest height and the longest walk. From one
+// start to the next height and distance go along in locals; the tables hold what jumps bring.
 ghost use mathlib.Core.Path.{_≡_};
 ghost use mathlib.Core.Logic.{_≢_};
 ghost use mathlib.Core.List.{List};
@@ -246,7 +246,12 @@ fn step(
     step_reached(rows, opcode, e, at, next, here, heights, distances)
 }
 
-pub fn measure(rows: &[[u8; 4]; 53], e: &[u8], heights: &mut [u8], distances: &mut [u16]) -> Measure
+pub(crate) fn measure(
+    rows: &[[u8; 4]; 53],
+    e: &[u8],
+    heights: &mut [u8],
+    distances: &mut [u16],
+) -> Measure
     requires { ⌜ (now rows ≡ table) × (length (now e) ≤ 1024) × Decodes (now e) × Aims (now e) × Unmeasured (now e) (now heights) (now distances) ⌝ }
     ensures { λ r. ⌜ r ≡ measureOf (pass3 one (now (e .entry))) ⌝ }
 {
