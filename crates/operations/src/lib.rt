@@ -45,7 +45,7 @@ pub fn needed_of(rows: &[[u8; 4]; 53], opcode: u8) -> usize
     row.needed as usize
 }
 
-// The height after the instruction, by the row of the opcode: the cells needed are taken, the cells left are put in their place.
+// The height after the instruction, by the row of the opcode: cells needed are taken, cells left come in their place.
 pub fn height_of(rows: &[[u8; 4]; 53], opcode: u8, height: usize) -> usize
     requires { ⌜ now rows ≡ table ⌝ ∗ ⌜ opcode < 53 ⌝ ∗ ⌜ getD (row (classOf opcode)) 1 0 ≤ height ⌝ ∗ ⌜ height ≤ 64 ⌝ }
     ensures { λ r. ⌜ r ≡ height - getD (row (classOf opcode)) 1 0 + getD (row (classOf opcode)) 2 0 ⌝ }
@@ -493,7 +493,7 @@ pub fn do_swap(
     }
 }
 
-// pick N: its row needs and leaves N cells more, and these stay where they are: only the copy is put.
+// pick N: N more cells than in its row are needed and left. They stay where they are, and only the copy is put.
 pub fn do_pick(
     rows: &[[u8; 4]; 53],
     code: &[u8],

@@ -214,8 +214,9 @@ pub fn do_tracenz<'a>(
 }
 
 // trace_quick and trace16: the size is the operand; the address stays on top. The next start is computed last: if the compiler kept it beside the
-// offset while the record is made, every step of a run would cost two machine instructions more. The rows need and leave one cell, and the height is
-// not read from them: the compiler would then no longer place this function inside `step`.
+// offset while the record is made, every step of a run would cost two machine instructions more.
+// Both rows need and leave one cell. The height is not computed from them: then the compiler would no longer place this
+// function inside `step`.
 pub fn do_trace_quick<'a>(
     rows: &[[u8; 4]; 53],
     code: &[u8],

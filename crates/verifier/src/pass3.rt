@@ -16,6 +16,7 @@ ghost use Rattle.verifier.specs.Tables.{measureOf, Unmeasured, Incoming,
 use crate::Flow;
 use crate::Measure;
 use crate::Step;
+use isa::Row;
 use isa::Stack;
 
 // At a start: nothing comes to it; heights that differ come to it.
@@ -137,9 +138,9 @@ fn effect_by(s: Step, needed: usize, left: usize, is_off: bool) -> Step
     }
 }
 
-// A jump that needs so many cells and leaves none: its effect, and what arrives at its target.
+// A jump with that row: its effect, and what arrives at its target.
 fn step_jump(
-    needed: usize,
+    row: Row,
     is_off: bool,
     e: &[u8],
     at: usize,
@@ -147,10 +148,10 @@ fn step_jump(
     heights: &mut [u8],
     distances: &mut [u16],
 ) -> Step
-    requires { ⌜ Reached (now e) at (s .height) (s .distance) (now heights) (now distances) ⌝ ∗ ⌜ (kind-goto ≤ kindAt (now e) at) × (kindAt (now e) at ≤ kind-if-goto) × (needed ≡ neededCells (now e) at) × (0 ≡ leftCells (now e) at) × («is_off» ≡ runsOff (now e) at) ⌝ }
+    requires { ⌜ Reached (now e) at (s .height) (s .distance) (now heights) (now distances) ⌝ ∗ ⌜ (kind-goto ≤ kindAt (now e) at) × (kindAt (now e) at ≤ kind-if-goto) × (row .needed ≡ neededCells (now e) at) × (row .left ≡ leftCells (now e) at) × («is_off» ≡ runsOff (now e) at) ⌝ }
     ensures { λ r. ⌜ Effected (now (e .entry)) at (s .height) (s .distance) (s .greatest) (s .longest) r × Told (now (e .entry)) at (s .height) (s .distance) r (now (heights .entry)) (now (distances .entry)) (now (heights .exit)) (now (distances .exit)) ⌝ }
 {
-    let after = effect_by(s, needed, 0, is_off);
+    let after = effect_by(s, wide(row.needed), wide(row.left), is_off);
     if after.fault != 0 {
         return after;
     }
@@ -159,7 +160,8 @@ fn step_jump(
     after
 }
 
-// A reached start whose instruction is pick, a jump or an end.
+// A reached start whose instruction is pick, a jump or an end. Each of these kinds has one opcode, named by a literal,
+// so that its row is known when this is compiled. The N of pick comes on top of its row.
 fn step_other(
     kind: u8,
     e: &[u8],
@@ -174,17 +176,19 @@ fn step_other(
 {
     let is_off = e.len() <= next;
     if kind == isa::PICK {
+        let row = isa::look_up(0x32);
         let n = isa::operand_at(e, at, 1) as usize;
-        return effect_by(s, 1 + n, 2 + n, is_off);
+        return effect_by(s, wide(row.needed) + n, wide(row.left) + n, is_off);
     }
     if kind == isa::IF_GOTO {
-        return step_jump(1, is_off, e, at, s, heights, distances);
+        return step_jump(isa::look_up(0x20), is_off, e, at, s, heights, distances);
     }
     if kind == isa::GOTO {
-        let after = step_jump(0, false, e, at, s, heights, distances);
+        let after = step_jump(isa::look_up(0x21), false, e, at, s, heights, distances);
         return halted(after, s.longest);
     }
-    let after = effect_by(s, 0, 0, false);
+    let row = isa::look_up(0x27);
+    let after = effect_by(s, wide(row.needed), wide(row.left), false);
     halted(after, greater(s.longest, after.distance))
 }
 

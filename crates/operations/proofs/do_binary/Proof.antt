@@ -33,7 +33,8 @@ replace-requires c κs =
 
 returns-2 : tie.Need-returns-2
 returns-2 c =
-    let n = c .before .before in let w = n .before in let i = w .before in let z = i .before in let a = z .before in let b = a .before .before in let x = b .before .before in let s = x .before .before in
+    let n = c .before .before in let w = n .before in let i = w .before in let z = i .before in
+    let a = z .before in let b = a .before .before in let x = b .before .before in let s = x .before .before in
     moves-to refl (c .replace .ensures .2) (binary-left _ (a .below2 .ensures) (b .below .ensures) (z .is-zero-divisor .ensures) (i .if1 .left) (w .binary-word .ensures)) refl
     (next-here (s .pre) (x .next-of .ensures)) (rw (needed-here (s .pre) (n .needed-of .ensures)) at (c .replace .ensures .1))
 

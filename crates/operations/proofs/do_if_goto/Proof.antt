@@ -18,7 +18,13 @@ next-of-requires c κs = search needs
 returns : tie.Need-returns
 returns c =
     let i = c .before in let g = i .before in let b = g .before in let s = b .before .before in
-    record { stop = refl; at = rw (eq-eqb _ 0 (sym (b .below .ensures) ∙ i .if1 .taken)) (next-here (s .pre) (c .next-of .ensures)); stack = taken-here (s .pre) (g .height-of .ensures) refl; put = refl; long = s .pre .long }
+    record {
+      stop = refl;
+      at = rw (eq-eqb _ 0 (sym (b .below .ensures) ∙ i .if1 .taken)) (next-here (s .pre) (c .next-of .ensures));
+      stack = taken-here (s .pre) (g .height-of .ensures) refl;
+      put = refl;
+      long = s .pre .long;
+    }
 
 operand-at-requires : tie.Need-operand-at-requires
 operand-at-requires c κs = search needs
@@ -26,7 +32,13 @@ operand-at-requires c κs = search needs
 returns-2 : tie.Need-returns-2
 returns-2 c =
     let i = c .before in let g = i .before in let b = g .before in let s = b .before .before in
-    record { stop = refl; at = rw (ne-eqb _ 0 (λ z. i .if1 .left (b .below .ensures ∙ z))) (c .operand-at .ensures .0); stack = taken-here (s .pre) (g .height-of .ensures) refl; put = refl; long = s .pre .long }
+    record {
+      stop = refl;
+      at = rw (ne-eqb _ 0 (λ z. i .if1 .left (b .below .ensures ∙ z))) (c .operand-at .ensures .0);
+      stack = taken-here (s .pre) (g .height-of .ensures) refl;
+      put = refl;
+      long = s .pre .long;
+    }
 
 pub do-if-goto-spec : {M : Type 1} → statement M
 do-if-goto-spec =

@@ -36,9 +36,16 @@ replace-requires-3 c κs =
 
 returns : tie.Need-returns
 returns c =
-    let r2 = c .before .before in let r = r2 .before .before in let n = r .before .before in let a = n .before in let b = a .before .before in let d = b .before .before in let x = d .before .before in let s = x .before .before in
+    let r2 = c .before .before in let r = r2 .before .before in let n = r .before .before in
+    let a = n .before in let b = a .before .before in let d = b .before .before in let x = d .before .before in let s = x .before .before in
     let e = rw (needed-here (s .pre) (n .needed-of .ensures)) at (r .replace .ensures .1) in
-    record { stop = refl; at = next-here (s .pre) (x .next-of .ensures); stack = cc (e, r2 .replace2 .ensures .1, a .below3 .ensures, b .below2 .ensures, d .below .ensures); put = refl; long = c .replace3 .ensures .2 }
+    record {
+      stop = refl;
+      at = next-here (s .pre) (x .next-of .ensures);
+      stack = cc (e, r2 .replace2 .ensures .1, a .below3 .ensures, b .below2 .ensures, d .below .ensures);
+      put = refl;
+      long = c .replace3 .ensures .2;
+    }
 
 pub do-rot-spec : {M : Type 1} → statement M
 do-rot-spec =

@@ -27,8 +27,16 @@ height-of-requires c κs =
 
 returns : tie.Need-returns
 returns c =
-    let x = c .before .before .before in let s = x .before .before in
-    (record { stop = refl; at = next-here (s .pre) (x .next-of .ensures); stack = rw (same-here (s .pre) (c .height-of .ensures) refl) (held-top _ _ (omega (arith, s .pre .cells))); put = refl; long = s .pre .long }, cc)
+    let x = c .before .before .before in let s = x .before .before in (
+      record {
+        stop = refl;
+        at = next-here (s .pre) (x .next-of .ensures);
+        stack = rw (same-here (s .pre) (c .height-of .ensures) refl) (held-top _ _ (omega (arith, s .pre .cells)));
+        put = refl;
+        long = s .pre .long;
+      },
+      cc,
+    )
 
 pub do-setv-spec : {M : Type 1} → statement M
 do-setv-spec =
