@@ -18,7 +18,9 @@ is-zero-divisor-requires : tie.Need-is-zero-divisor-requires
 is-zero-divisor-requires c κs = search needs
 
 returns : tie.Need-returns
-returns c = stops-at refl (c .before .before .before .before .before .before .before .before .pre .long) (binary-refused _ (c .before .before .below2 .ensures) (c .before .before .before .before .below .ensures) (c .before .is-zero-divisor .ensures) (c .if1 .taken)) refl refl refl
+returns c =
+    let z = c .before in let a = z .before in let b = a .before .before in let s = b .before .before .before .before in
+    stops-at refl (s .pre .long) (binary-refused _ (a .below2 .ensures) (b .below .ensures) (z .is-zero-divisor .ensures) (c .if1 .taken)) refl refl refl
 
 binary-word-requires : tie.Need-binary-word-requires
 binary-word-requires c κs = sym (c .before .is-zero-divisor .ensures) ∙ c .if1 .left
