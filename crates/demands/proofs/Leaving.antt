@@ -5,7 +5,7 @@ use mathlib.Core.Path.{_≡_, refl, sym, ap, _∙_}
 use Prim.Native.Nat.{ℕ, zero, suc, _+_, _≤_, _<_}
 use native.Mathlib.Omega.{arith}
 use native.Mathlib.Decide.{ℕ-discrete}
-use lib.ListN.{length}
+use lib.ListN.{length, length-append}
 use Rattle.encoding.specs.Written.{writtenAt}
 use Rattle.memory.specs.Spans.{spansRefusal}
 use Rattle.frames.specs.Record.{Record, encodeAll}
@@ -68,6 +68,25 @@ module _ (m : Fed) (t : ℕ) (v b : List ℕ) (u allowance : ℕ) where
 
   pub fine : numberOf (ended m v b u allowance) ≡ 0 → spans ≡ 0
   fine = fine-by (verdict (m .expression)) refl
+
+  -- ---- a run that has made a record has stepped, so that its spans were not refused
+  module _ (before : List Record) (x : Record) (behind : List Record) (p : recordsOf (ended m v b u allowance) ≡ before ++ (x ∷ behind)) where
+    none-made : {r k : ℕ} → ended m v b u allowance ≡ stopped r k 0 [] → ⊥
+    unfolding recordsOf
+    none-made e =
+        let q : [] ≡ before ++ (x ∷ behind) = sym (ap recordsOf e) ∙ p in
+        omega (arith, ap length q, length-append before (x ∷ behind))
+
+    made-by : (y : Verdict) → verdict (m .expression) ≡ y → spans ≡ 0
+    made-by (accepted n g l) q =
+        elim (ℕ-discrete (inputRefusal m b u) 0) [
+          | yes z ↦ machine.spans-fine m b u z
+          | no z ↦ absurd (none-made (machine.inputs-refused m v b u allowance q z))
+        ]
+    made-by (refused r k) q = absurd (none-made (machine.refused-early m v b u allowance q))
+
+    pub made-fine : spans ≡ 0
+    made-fine = made-by (verdict (m .expression)) refl
 
 -- ---- a record among others
 -- the record number i of a list

@@ -205,9 +205,17 @@ module _ {m : Fed} {t : ℕ} {v b : List ℕ} {u allowance number : ℕ} {values
   -- "The verifier, the runner and the frame reader agree with the GDB manual's bytecode descriptions as document 01
   -- makes them exact": the contracts above, of `verdict`, `ended`, `reading`, `counting` and `walked`.
   -- "Each recorded byte is the target's byte at the recorded address": of each record, whether the run completed or was
-  -- refused.
+  -- refused; and byte by byte: a span holds its address, and it is the target's byte there.
   pub recorded-bytes : AllFromTarget m made
   recorded-bytes = machine.records-from-target m v b u allowance
+
+  pub recorded-byte : (before : List Record) (a : ℕ) (bytes : List ℕ) (behind : List Record) → made ≡ before ++ (memory a bytes ∷ behind)
+      → (i : ℕ) → i < length bytes
+      → InTarget (m .image-first) (m .image) (m .work-first) (m .work) (a + i)
+      × (getD bytes i 0 ≡ targetByte (m .image-first) (m .image) (m .work-first) (m .work) (a + i))
+  recorded-byte before a bytes behind p =
+      machine.recorded-byte m (leaving.made-fine m t v b u allowance before (memory a bytes) behind p) a bytes
+      (leaving.all-at m before (memory a bytes) behind (rw p at recorded-bytes))
 
   -- "Reading the newest frame after a completed run gives exactly the records that run made": their number, each in its
   -- place with its bytes, and none past the last; and the frames that were there before are read as before, one number
