@@ -18,9 +18,9 @@ use Rattle.isa.specs.Classes.{kind-unsupported}
 use Rattle.isa.specs.Decode.{kindAt, next}
 use Rattle.isa.specs.Starts.{isStart}
 use Rattle.isa.proofs.Promises.{by-starts, from-end, start-zero, start-in, start-next}
-use Rattle.verifier.specs.Acceptance.{Acceptable}
-use Rattle.verifier.specs.Verdict.{accepted, verdict}
-use Rattle.verifier.proofs.Promises.{accepted-means, start-whole}
+use Rattle.verdict.specs.Acceptance.{Acceptable}
+use Rattle.verdict.specs.Verdict.{accepted, verdict}
+use Rattle.verdict.proofs.Promises.{accepted-means, start-whole}
 use Rattle.heights.specs.Arrivals.{unreached}
 use Rattle.listing.specs.Numbers.{decimal}
 use Rattle.listing.specs.Text.{textAt, isInstruction}

@@ -18,7 +18,7 @@ use Rattle.report.proofs.Promises.{append-nil}
 use Rattle.isa.specs.Decode.{next}
 use Rattle.isa.specs.Starts.{startsFrom}
 use Rattle.isa.proofs.Promises.{from-end, from-next}
-use Rattle.verifier.specs.Verdict.{Verdict}
+use Rattle.verdict.specs.Verdict.{Verdict}
 use Rattle.listing.specs.Text.{textAt, isInstruction, writtenAnswer, writtenLeft}
 use Rattle.listing.specs.Listing.{joined}
 use Rattle.listing.specs.declared.writing.Written.{Written}

@@ -21,9 +21,9 @@ use Rattle.isa.specs.Decode.{next}
 use Rattle.isa.specs.Starts.{startsFrom}
 use Rattle.isa.specs.Walk.{Walk}
 use Rattle.isa.proofs.Promises.{by-starts, from-end, from-next, start-in, walk-last}
-use Rattle.verifier.specs.Acceptance.{Accepted, Shows, heights-differ, too-few, too-many, runs-on, Justified, of-size, of-pass1, of-pass2, of-pass3}
-use Rattle.verifier.specs.Verdict.{Verdict, accepted, refused, verdict}
-use Rattle.verifier.proofs.Promises.{means, accepted-means, refused-number, ready, longest-length}
+use Rattle.verdict.specs.Acceptance.{Accepted, Shows, heights-differ, too-few, too-many, runs-on, Justified, of-size, of-pass1, of-pass2, of-pass3}
+use Rattle.verdict.specs.Verdict.{Verdict, accepted, refused, verdict}
+use Rattle.verdict.proofs.Promises.{means, accepted-means, refused-number, ready, longest-length}
 use Rattle.heights.specs.Arrivals.{unreached, ArrivalsBy}
 use Rattle.listing.specs.Names.{nameOf}
 use Rattle.listing.specs.Numbers.{decimal}

@@ -8,7 +8,7 @@ use Rattle.isa.specs.Decode.{operand}
 use Rattle.isa.specs.Starts.{startsAtMost, startsFrom}
 use Rattle.report.specs.Hex.{hexOf}
 use Rattle.report.specs.Text.{bytesOf}
-use Rattle.verifier.specs.Verdict.{accepted, refused}
+use Rattle.verdict.specs.Verdict.{accepted, refused}
 use Rattle.listing.specs.Names.{names, nameOf}
 use Rattle.listing.specs.Numbers.{decimalBy, decimal, signed}
 use Rattle.listing.specs.Text.{aligned, operandText, textOf, textAt, namedAt, isInstruction, plainAt}

@@ -6,7 +6,7 @@ use lib.Dec.{ltb}
 use lib.ListN.{length, take, getD, replicate}
 use Rattle.report.specs.Text.{bytesOf}
 use Rattle.isa.specs.Starts.{starts}
-use Rattle.verifier.specs.Verdict.{Verdict, accepted, refused}
+use Rattle.verdict.specs.Verdict.{Verdict, accepted, refused}
 use Rattle.listing.specs.Text.{textAt, isInstruction}
 use Rattle.listing.specs.Listing.{joined}
 use Rattle.answers.specs.Verdict.{verdictText, heightText}

@@ -8,7 +8,7 @@ use Rattle.report.specs.Text.{bytesOf}
 use Rattle.report.specs.Hex.{pairOf}
 use Rattle.report.specs.Refusals.{refusalOf}
 use Rattle.isa.specs.Classes.{classOf, kind, kind-unknown, kind-unsupported}
-use Rattle.verifier.specs.Verdict.{Verdict, accepted, refused}
+use Rattle.verdict.specs.Verdict.{Verdict, accepted, refused}
 use Rattle.listing.specs.Names.{nameOf}
 use Rattle.listing.specs.Numbers.{decimal}
 use Rattle.listing.specs.Text.{isInstruction, plainAt}

@@ -6,7 +6,7 @@ ghost use Prim.Native.Nat.{ℕ, _<_};
 ghost use lib.ListN.{length};
 ghost use Rattle.io.specs.Counts.{Counts};
 ghost use Rattle.report.specs.Text.{Appends};
-ghost use Rattle.verifier.specs.Verdict.{verdict, verdictOf};
+ghost use Rattle.verdict.specs.Verdict.{verdict, verdictOf};
 ghost use Rattle.listing.specs.Text.{isInstruction};
 ghost use Rattle.heights.specs.Arrivals.{ArrivalsBy};
 ghost use Rattle.answers.specs.Listed.{gapText, besideText, rowText, isListed, isAccepted, listedText, answerText};
@@ -16,7 +16,7 @@ use listing::writing::Written;
 use listing::writing::is_instruction;
 use listing::writing::write_instruction;
 use report::text::append;
-use verifier::Answer;
+use verdict::Answer;
 
 // Blanks up to the column of the heights, behind a text of `n` characters.
 fn append_gap(out: &mut [u8], at: usize, n: usize) -> usize

@@ -3,7 +3,7 @@ ghost use mathlib.Core.Path.{_≡_};
 ghost use Rattle.io.specs.Counts.{Counts};
 ghost use Rattle.report.specs.Text.{Appends};
 ghost use Rattle.isa.specs.Classes.{classOf, kind as kindOf};
-ghost use Rattle.verifier.specs.Verdict.{verdictOf};
+ghost use Rattle.verdict.specs.Verdict.{verdictOf};
 ghost use Rattle.answers.specs.Verdict.{acceptedText, unsupportedName, knownName, opcodeText, thereText, instructionOf, refusedLine, verdictText, heightText};
 use listing::names::append_name;
 use listing::writing::append_plain;
@@ -13,7 +13,7 @@ use phrases::refused::append_refused_at;
 use report::text::append;
 use report::text::append_number;
 use report::text::append_refusal;
-use verifier::Answer;
+use verdict::Answer;
 
 fn append_accepted(out: &mut [u8], at: usize, count: usize, height: u8, walk: usize) -> usize
     ensures count { λ r. ⌜ Counts r (now (out .exit)) ⌝ }

@@ -11,8 +11,8 @@ use Rattle.memory.specs.Spans.{spansRefusal}
 use Rattle.frames.specs.Record.{Record, encodeAll}
 use Rattle.frames.specs.Frame.{encodeFrame}
 use Rattle.frames.proofs.Promises.{frame-length}
-use Rattle.verifier.specs.Verdict.{Verdict, accepted, refused, verdict}
-use Rattle.verifier.proofs.Promises.{refused-number}
+use Rattle.verdict.specs.Verdict.{Verdict, accepted, refused, verdict}
+use Rattle.verdict.proofs.Promises.{refused-number}
 use Rattle.machine.specs.Fed.{Fed}
 use Rattle.machine.specs.Machine.{Ended, completed, stopped}
 use Rattle.machine.specs.Run.{inputRefusal, ended, numberOf, leftBytes, variablesOf, usedOf, bufferOf}

@@ -15,9 +15,9 @@ use Rattle.encoding.specs.Ranges.{AllBytes, AllWords}
 use Rattle.memory.specs.Fetch.{fetchRefusal, fetched, InTarget, targetByte}
 use Rattle.frames.specs.Record.{Record, memory, encodeAll, AllWellFormed}
 use Rattle.frames.specs.Frame.{encodeFrame}
-use Rattle.verifier.specs.Verdict.{accepted, verdict, verdictOf}
-use Rattle.verifier.specs.Acceptance.{MostIs}
-use Rattle.verifier.proofs.Promises as verifying
+use Rattle.verdict.specs.Verdict.{accepted, verdict, verdictOf}
+use Rattle.verdict.specs.Acceptance.{MostIs}
+use Rattle.verdict.proofs.Promises as verifying
 use Rattle.machine.specs.Fed.{Fed, fed}
 use Rattle.machine.specs.Run.{ended, defaultAllowance, numberOf, stepsOf, usedOf, variablesOf, bufferOf}
 use Rattle.machine.specs.Recorded.{AllFromTarget, recordsOf}

@@ -10,7 +10,7 @@ use Rattle.memory.specs.Fetch.{fetchRefusal}
 use Rattle.machine.specs.Fed.{Fed}
 use Rattle.machine.specs.Run.{ended, defaultAllowance}
 use Rattle.machine.specs.Run as machine
-use Rattle.verifier.specs.Verdict.{verdict}
+use Rattle.verdict.specs.Verdict.{verdict}
 use Rattle.reader.specs.Located.{located, walked}
 use Rattle.reader.specs.Read.{reading, counting}
 use Rattle.lilivrez_verifier.specs.Told as verifier

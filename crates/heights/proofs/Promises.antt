@@ -12,9 +12,9 @@ use lib.Seq.{ext-getD}
 use Rattle.isa.specs.Starts.{isStart}
 use Rattle.isa.specs.Walk.{Walk}
 use Rattle.isa.proofs.Promises.{walk-last}
-use Rattle.verifier.specs.Acceptance.{Accepted}
-use Rattle.verifier.specs.Verdict.{Verdict, accepted, refused}
-use Rattle.verifier.proofs.Promises.{ready}
+use Rattle.verdict.specs.Acceptance.{Accepted}
+use Rattle.verdict.specs.Verdict.{Verdict, accepted, refused}
+use Rattle.verdict.proofs.Promises.{ready}
 use Rattle.heights.specs.Arrivals.{unreached, Arrivals, ArrivalsBy}
 
 -- A cell with 255 says that no walk arrives: 255 is no height, since at most 64 cells remain.

@@ -14,8 +14,8 @@ use Rattle.isa.specs.declared.Row.{Row}
 use Rattle.isa.specs.Starts.{isStart}
 use Rattle.isa.specs.Walk.{After, Walk, stop, step}
 use Rattle.isa.proofs.Promises.{start-zero, start-in, start-next, before-next, walk-last}
-use Rattle.verifier.specs.Acceptance.{Acceptable, Accepted, Ready}
-use Rattle.verifier.proofs.Promises.{accepted-means, fitting-accepted, begins, ready, goes-on, goes-forward}
+use Rattle.verdict.specs.Acceptance.{Acceptable, Accepted, Ready}
+use Rattle.verdict.proofs.Promises.{accepted-means, fitting-accepted, begins, ready, goes-on, goes-forward}
 use Rattle.heights.specs.Arrivals.{unreached, Arrivals}
 use Rattle.heights.specs.Filling.{Room, Stored, Filling}
 use Rattle.heights.proofs.Storing.{row-cells, after-row}

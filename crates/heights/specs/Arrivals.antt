@@ -5,8 +5,8 @@ use mathlib.Core.Logic.{_≢_}
 use Prim.Native.Nat.{ℕ, _<_}
 use lib.ListN.{length, getD, replicate}
 use Rattle.isa.specs.Walk.{Walk}
-use Rattle.verifier.specs.Verdict.{Verdict, accepted, refused, verdict, verdictOf}
-use Rattle.verifier.specs.declared.Answer.{Answer}
+use Rattle.verdict.specs.Verdict.{Verdict, accepted, refused, verdict, verdictOf}
+use Rattle.verdict.specs.declared.Answer.{Answer}
 
 -- what stands at an offset where no walk arrives; no height, since at most 64 cells remain
 abbrev pub unreached : ℕ

@@ -9,7 +9,7 @@ use Rattle.isa.specs.Classes.{kind-goto, kind-if-goto, kind-end}
 use Rattle.isa.specs.Decode.{kindAt, next, operand, heightAfter}
 use Rattle.isa.specs.Starts.{isStart}
 use Rattle.isa.specs.Walk.{After, Walk}
-use Rattle.verifier.specs.Acceptance.{Acceptable}
+use Rattle.verdict.specs.Acceptance.{Acceptable}
 use Rattle.heights.specs.Arrivals.{unreached}
 
 -- the two ways in which m may come after the instruction at k: as the target of a jump, and as the next start

@@ -5,11 +5,11 @@ ghost use Prim.Native.Nat.{_<_};
 ghost use lib.ListN.{length, getD, replicate};
 ghost use Rattle.isa.specs.Decode.{next};
 ghost use Rattle.isa.specs.Rows.{table, IsRow};
-ghost use Rattle.verifier.specs.Acceptance.{Acceptable};
+ghost use Rattle.verdict.specs.Acceptance.{Acceptable};
 ghost use Rattle.heights.specs.Arrivals.{unreached, Arrivals, Answered};
 ghost use Rattle.heights.specs.Filling.{AtTarget, AtNext, Room, Stored, Filling};
 use isa::Row;
-use verifier::Answer;
+use verdict::Answer;
 
 // The cell of an offset at which no walk arrives.
 pub const UNREACHED: u8 = 255;

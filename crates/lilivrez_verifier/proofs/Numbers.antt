@@ -3,8 +3,8 @@ use mathlib.Core.List.{List}
 use mathlib.Core.Path.{_≡_, refl, sym, _∙_}
 use Prim.Native.Nat.{ℕ, _≤_}
 use native.Mathlib.Omega.{arith}
-use Rattle.verifier.specs.Verdict.{Verdict, accepted, refused, verdict}
-use Rattle.verifier.proofs.Promises.{refused-number}
+use Rattle.verdict.specs.Verdict.{Verdict, accepted, refused, verdict}
+use Rattle.verdict.proofs.Promises.{refused-number}
 use Rattle.lilivrez_verifier.specs.Told.{numberOf}
 
 module _ (e : List ℕ) where

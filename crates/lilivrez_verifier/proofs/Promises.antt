@@ -2,7 +2,7 @@
 use mathlib.Core.List.{List}
 use mathlib.Core.Path.{_≡_}
 use Prim.Native.Nat.{ℕ, _≤_}
-use Rattle.verifier.specs.Verdict.{accepted, verdict}
+use Rattle.verdict.specs.Verdict.{accepted, verdict}
 use Rattle.lilivrez_verifier.specs.Told.{numberOf}
 use Rattle.lilivrez_verifier.proofs.Numbers as numbers
 

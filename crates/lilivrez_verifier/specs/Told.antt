@@ -1,7 +1,7 @@
 -- The verifier's answer as numbers: what `lilivrez_verify` returns, and what it stores. Document 01, "Verifying".
 use mathlib.Core.List.{List, [], _∷_}
 use Prim.Native.Nat.{ℕ}
-use Rattle.verifier.specs.Verdict.{Verdict, accepted, refused}
+use Rattle.verdict.specs.Verdict.{Verdict, accepted, refused}
 
 -- the number of the refusal: 0 where the expression is accepted
 unfoldable pub numberOf : Verdict → ℕ

@@ -1,8 +1,8 @@
 // The verifier as a static library, for C and Rust: include/lilivrez_verifier.h says how it is called.
 ghost use mathlib.Core.Path.{_≡_};
-ghost use Rattle.verifier.specs.Verdict.{verdict};
+ghost use Rattle.verdict.specs.Verdict.{verdict};
 ghost use Rattle.lilivrez_verifier.specs.Told.{numberOf, valuesOf};
-use verifier::Answer;
+use verdict::Answer;
 
 // Returns the number of the refusal, or 0 where the expression is accepted. Stores the offset of the refusal, the instruction count, the greatest height
 // and the longest walk.

@@ -12,7 +12,7 @@ use Rattle.isa.specs.Classes.{Class, binary, trace, tracenz, unary, ref, trace-
 use Rattle.isa.specs.Decode.{kindAt, classAt}
 use Rattle.frames.specs.Record.{Record, encodeAll}
 use Rattle.frames.specs.Trailer.{trailerSize}
-use Rattle.verifier.specs.Verdict.{Verdict, accepted, refused, verdict}
+use Rattle.verdict.specs.Verdict.{Verdict, accepted, refused, verdict}
 use Rattle.machine.specs.Fed.{Fed, State, begin}
 use Rattle.machine.specs.Meaning.{Done, leaves, faults, endDone, done}
 use Rattle.machine.specs.Machine.{Answer, Ended, completed, stopped, moved, onward, moves}

@@ -9,8 +9,8 @@ use Rattle.isa.specs.Classes.{kind-end}
 use Rattle.isa.specs.Decode.{kindAt}
 use Rattle.isa.specs.Walk.{Walk}
 use Rattle.frames.specs.Record.{Record}
-use Rattle.verifier.specs.Acceptance.{Accepted, Ready}
-use Rattle.verifier.proofs.Promises.{begins, ready, goes-on}
+use Rattle.verdict.specs.Acceptance.{Accepted, Ready}
+use Rattle.verdict.proofs.Promises.{begins, ready, goes-on}
 use Rattle.machine.specs.Fed.{Fed}
 use Rattle.machine.specs.Meaning.{leaves, faults, done, stackAfter, offsetAfter}
 use Rattle.machine.proofs.Cells.{Stepping, height-after, faults-stepping, after-offset}

@@ -16,9 +16,9 @@ use Rattle.memory.specs.FirstZero.{Sought, up-to-zero, all-of-size, cut-short, 
 use Rattle.memory.proofs.Promises.{readable-means, fetch-0, fetched-length, fetched-part, rest-readable, rest-fetched, search-found, search-reached}
 use Rattle.frames.specs.Record.{Record, memory, variable, encode, encodeAll}
 use Rattle.frames.specs.Trailer.{trailerSize}
-use Rattle.verifier.specs.Verdict.{Verdict, accepted, refused, verdict}
-use Rattle.verifier.specs.Acceptance.{Accepted, Means}
-use Rattle.verifier.proofs.Promises.{means}
+use Rattle.verdict.specs.Verdict.{Verdict, accepted, refused, verdict}
+use Rattle.verdict.specs.Acceptance.{Accepted, Means}
+use Rattle.verdict.proofs.Promises.{means}
 use Rattle.machine.specs.Fed.{Fed, State, begin}
 use Rattle.machine.specs.Words.{zeroDivisor}
 use Rattle.machine.specs.Recording.{Made, made, refuses, fitting, rangeMade, zeroMade, toZeroMade}

@@ -14,8 +14,8 @@ use Rattle.memory.specs.Spans.{spansRefusal}
 use Rattle.memory.specs.Fetch.{InTarget, targetByte}
 use Rattle.frames.specs.Trailer.{trailerSize}
 use Rattle.frames.specs.Record.{Record, encodeAll, memory, AllWellFormed}
-use Rattle.verifier.specs.Verdict.{accepted, refused, verdict}
-use Rattle.verifier.specs.Acceptance.{Accepted, Ready}
+use Rattle.verdict.specs.Verdict.{accepted, refused, verdict}
+use Rattle.verdict.specs.Acceptance.{Accepted, Ready}
 use Rattle.machine.specs.Fed.{Fed, State, begin}
 use Rattle.machine.specs.Meaning.{leaves, faults, endDone, done, stackAfter, offsetAfter}
 use Rattle.machine.specs.Machine.{Answer, completed, stopped, moves}

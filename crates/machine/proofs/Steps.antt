@@ -12,9 +12,9 @@ use Rattle.encoding.proofs.Promises.{tried-most}
 use Rattle.isa.specs.Classes.{kind-end}
 use Rattle.isa.specs.Decode.{kindAt}
 use Rattle.frames.specs.Record.{Record, encodeAll}
-use Rattle.verifier.specs.Verdict.{Verdict, accepted, refused, verdict}
-use Rattle.verifier.specs.Acceptance.{Accepted}
-use Rattle.verifier.proofs.Promises.{accepted-means, refused-number, longest-length}
+use Rattle.verdict.specs.Verdict.{Verdict, accepted, refused, verdict}
+use Rattle.verdict.specs.Acceptance.{Accepted}
+use Rattle.verdict.proofs.Promises.{accepted-means, refused-number, longest-length}
 use Rattle.machine.specs.Fed.{Fed, State, begin}
 use Rattle.machine.specs.Meaning.{Done, leaves, faults, done}
 use Rattle.machine.specs.Machine.{Ended, completed, stopped, answer, moved, onward, moves}

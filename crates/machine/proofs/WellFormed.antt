@@ -19,7 +19,7 @@ use Rattle.memory.specs.Fetch.{holdsRange, readable, fetchRefusal, fetched}
 use Rattle.memory.proofs.Promises.{spans-0}
 use Rattle.frames.specs.Record.{variable, encodeAll, WellFormed, AllWellFormed}
 use Rattle.frames.specs.Trailer.{trailerSize}
-use Rattle.verifier.specs.Acceptance.{Accepted}
+use Rattle.verdict.specs.Acceptance.{Accepted}
 use Rattle.machine.specs.Fed.{Fed, State}
 use Rattle.machine.specs.Words.{binaryWord, zeroDivisor, unaryWord}
 use Rattle.machine.specs.Recording.{Made, made, refuses, fitting, rangeMade, toZeroMade}

@@ -15,11 +15,11 @@ use Rattle.memory.specs.Fetch.{holdsRange, readable, fetchRefusal, fetched, res
 use Rattle.memory.specs.FirstZero.{searched}
 use Rattle.frames.specs.Record.{Record, memory, encode, encodeAll}
 use Rattle.frames.specs.Trailer.{encodeTrailer}
-use Rattle.verifier.specs.Fault.{first}
-use Rattle.verifier.specs.Pass1.{fault1}
-use Rattle.verifier.specs.Pass2.{fault2}
-use Rattle.verifier.specs.Pass3.{arrive, raise, atTarget, atNext, runsOff, fault3, longer, heightsAlong, heights0, distances0, pass3}
-use Rattle.verifier.specs.Verdict.{Verdict, accepted, refused, after1, after2, after3, verdict}
+use Rattle.verdict.specs.Fault.{first}
+use Rattle.verdict.specs.Pass1.{fault1}
+use Rattle.verdict.specs.Pass2.{fault2}
+use Rattle.verdict.specs.Pass3.{arrive, raise, atTarget, atNext, runsOff, fault3, longer, heightsAlong, heights0, distances0, pass3}
+use Rattle.verdict.specs.Verdict.{Verdict, accepted, refused, after1, after2, after3, verdict}
 use Rattle.machine.specs.Fed.{fed}
 use Rattle.machine.specs.Words.{binaryWord, zeroDivisor}
 use Rattle.machine.specs.Recording.{fitting, rangeMade, toZeroMade}

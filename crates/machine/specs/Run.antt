@@ -9,7 +9,7 @@ use Rattle.encoding.specs.Written.{writtenAt}
 use Rattle.memory.specs.Spans.{spanTests}
 use Rattle.frames.specs.Record.{encodeAll}
 use Rattle.frames.specs.Trailer.{encodeTrailer}
-use Rattle.verifier.specs.Verdict.{Verdict, accepted, refused, verdict}
+use Rattle.verdict.specs.Verdict.{Verdict, accepted, refused, verdict}
 use Rattle.machine.specs.Fed.{Fed, begin}
 use Rattle.machine.specs.Machine.{Ended, completed, stopped, moves}
 

@@ -5,8 +5,8 @@ use Prim.Native.Nat.{ℕ, _≤_}
 use lib.ListN.{length, getD}
 use Rattle.isa.specs.Decode.{next, operand, needed, heightAfter}
 use Rattle.isa.specs.Walk.{Walk}
-use Rattle.verifier.specs.Acceptance.{Accepted}
-use Rattle.verifier.specs.Verdict.{Verdict, accepted, refused}
+use Rattle.verdict.specs.Acceptance.{Accepted}
+use Rattle.verdict.specs.Verdict.{Verdict, accepted, refused}
 use Rattle.reached.specs.declared.Instruction.{Instruction}
 use Rattle.reached.specs.declared.First.{First}
 use Rattle.reached.specs.declared.First.the-variants.{At, Refused}

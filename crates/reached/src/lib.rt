@@ -3,9 +3,9 @@
 // fits.
 ghost use mathlib.Core.Path.{_≡_};
 ghost use Rattle.isa.specs.Rows.{table};
-ghost use Rattle.verifier.specs.Verdict.{verdict};
+ghost use Rattle.verdict.specs.Verdict.{verdict};
 ghost use Rattle.reached.specs.Reached.{Reached, IsInstruction, FirstIs};
-use verifier::Answer;
+use verdict::Answer;
 
 // An instruction, and the height after it.
 pub struct Instruction {

@@ -6,8 +6,8 @@ use Prim.Native.Nat.{ℕ, _-_}
 use lib.ListN.{length}
 use Rattle.encoding.proofs.Promises.{written-nothing}
 use Rattle.frames.specs.Record.{encodeAll}
-use Rattle.verifier.specs.Verdict.{accepted, refused, verdict}
-use Rattle.verifier.proofs.Promises.{accepted-means}
+use Rattle.verdict.specs.Verdict.{accepted, refused, verdict}
+use Rattle.verdict.proofs.Promises.{accepted-means}
 use Rattle.machine.specs.Fed.{Fed, begin}
 use Rattle.machine.specs.Machine.{Ended, stopped, moves}
 use Rattle.machine.specs.Run.{inputRefusal, ended, leftBytes, variablesOf, bufferOf}

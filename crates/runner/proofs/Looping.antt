@@ -19,7 +19,7 @@ use Rattle.isa.proofs.Promises.{length-held}
 use Rattle.frames.specs.Record.{Record, encodeAll}
 use Rattle.frames.specs.Trailer.{trailerSize, encodeTrailer}
 use Rattle.frames.proofs.Promises.{encode-all-append, trailer-length}
-use Rattle.verifier.specs.Acceptance.{Accepted, Ready}
+use Rattle.verdict.specs.Acceptance.{Accepted, Ready}
 use Rattle.machine.specs.Fed.{Fed, State, begin}
 use Rattle.machine.specs.Meaning.{Done, leaves, faults, endDone, done, stackAfter, variablesAfter, offsetAfter}
 use Rattle.machine.specs.Machine.{answer, Ended, completed, stopped, onward, moves}

@@ -8,7 +8,7 @@ use lib.ListN.{length}
 use Rattle.encoding.specs.Written.{writtenAt}
 use Rattle.frames.specs.Record.{encodeAll}
 use Rattle.frames.specs.Frame.{encodeFrame}
-use Rattle.verifier.specs.Verdict.{accepted, verdict}
+use Rattle.verdict.specs.Verdict.{accepted, verdict}
 use Rattle.machine.specs.Fed.{Fed}
 use Rattle.machine.specs.Run.{ended, stepsOf}
 use Rattle.machine.specs.Recorded.{AllFromTarget, recordsOf}

@@ -8,7 +8,7 @@ use Rattle.encoding.specs.Written.{writtenAt}
 use Rattle.frames.specs.Record.{encodeAll}
 use Rattle.frames.specs.Frame.{encodeFrame}
 use Rattle.frames.proofs.Promises.{frame-length}
-use Rattle.verifier.specs.Verdict.{accepted, verdict}
+use Rattle.verdict.specs.Verdict.{accepted, verdict}
 use Rattle.machine.specs.Fed.{Fed}
 use Rattle.machine.specs.Machine.{Ended, completed, stopped}
 use Rattle.machine.specs.Run.{ended, stepsOf, numberOf, leftBytes, variablesOf, usedOf, bufferOf}

@@ -4,7 +4,7 @@
 use mathlib.Core.List.{List}
 use mathlib.Core.Path.{_≡_}
 use Prim.Native.Nat.{ℕ}
-use Rattle.verifier.specs.Acceptance.{Accepted}
+use Rattle.verdict.specs.Acceptance.{Accepted}
 use Rattle.machine.specs.Fed.{Fed}
 use Rattle.machine.specs.Machine.{Answer, no-value, top, top-and-beneath, Ended, completed, stopped}
 use Rattle.machine.specs.Run.{ended, variablesOf, usedOf, bufferOf}

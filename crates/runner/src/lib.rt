@@ -13,7 +13,7 @@ ghost use Rattle.machine.specs.Machine.{answer, moves};
 ghost use Rattle.machine.specs.Run.{inputRefusal, defaultAllowance};
 ghost use Rattle.runner.specs.Returned.{answerOf, IsAccepted, EndsAs, Ran};
 use isa::Stack;
-use verifier::Answer;
+use verdict::Answer;
 
 // What is on top of the stack at an end: no value, the top, or the top and the cell beneath.
 pub enum Value {

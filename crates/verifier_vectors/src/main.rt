@@ -4,7 +4,7 @@ use libc::STDOUT_FILENO;
 use report::hex::Decoded;
 use report::text::append;
 use report::text::append_number;
-use verifier::Answer;
+use verdict::Answer;
 
 fn append_accepted(out: &mut [u8], count: usize, height: u8, walk: usize) -> usize
     ensures { λ r. ⌜ Counts r (now (out .exit)) ⌝ }

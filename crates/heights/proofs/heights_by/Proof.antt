@@ -1,6 +1,6 @@
 use mathlib.Core.Path.{refl, ap, sym, _∙_}
-use Rattle.verifier.specs.Verdict.{verdictOf}
-use Rattle.verifier.proofs.Promises.{accepted-means}
+use Rattle.verdict.specs.Verdict.{verdictOf}
+use Rattle.verdict.proofs.Promises.{accepted-means}
 use borrow.Author.Needs.{needs}
 use Rattle.heights.proofs.heights_by.Statement.{statement}
 use Rattle.heights.proofs.heights_by.Tie as tie

@@ -1,6 +1,6 @@
 use mathlib.Core.Path.{sym, ap, _∙_}
 use borrow.Author.Needs.{needs}
-use Rattle.verifier.specs.Verdict.{verdictOf}
+use Rattle.verdict.specs.Verdict.{verdictOf}
 use Rattle.lilivrez_verifier.specs.Told.{numberOf, valuesOf}
 use Rattle.lilivrez_verifier.proofs.lilivrez_verify.Statement.{statement}
 use Rattle.lilivrez_verifier.proofs.lilivrez_verify.Tie as tie

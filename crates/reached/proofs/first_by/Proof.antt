@@ -1,6 +1,6 @@
 use mathlib.Core.Path.{refl, ap, sym, _∙_}
-use Rattle.verifier.specs.Verdict.{verdictOf}
-use Rattle.verifier.proofs.Promises.{accepted-means, begins}
+use Rattle.verdict.specs.Verdict.{verdictOf}
+use Rattle.verdict.proofs.Promises.{accepted-means, begins}
 use borrow.Author.Needs.{needs}
 use Rattle.reached.proofs.first_by.Statement.{statement}
 use Rattle.reached.proofs.first_by.Tie as tie

@@ -3,7 +3,7 @@ use denote.Ref.{now}
 use Rattle.isa.specs.Classes.{opcodes, classOf}
 use Rattle.isa.specs.Rows.{rowsFrom, table}
 use Rattle.machine.specs.Run.{inputRefusal}
-use Rattle.verifier.specs.Verdict.{verdictOf}
+use Rattle.verdict.specs.Verdict.{verdictOf}
 use Rattle.machine.specs.Fed.{fed}
 use Rattle.runner.proofs.Inputs.{inputs-fit}
 use Rattle.runner.proofs.Entering.{is-accepted, enter-refused, enter-inputs, enter-loop}

@@ -3,7 +3,7 @@ use borrow.Author.Needs.{needs}
 use denote.Ref.{now}
 use mathlib.Core.Path.{sym, ap}
 use Rattle.report.proofs.Promises.{appends-same}
-use Rattle.verifier.specs.Verdict.{verdictOf}
+use Rattle.verdict.specs.Verdict.{verdictOf}
 use Rattle.answers.specs.Verdict.{verdictText}
 use Rattle.answers.proofs.verdict.append_verdict.Statement.{statement}
 use Rattle.answers.proofs.verdict.append_verdict.Tie as tie

@@ -1,0 +1,43 @@
+use native.Mathlib.Omega.{arith}
+use lib.ListN.{getD}
+use Rattle.isa.proofs.Promises.{ext-operands, variable-operands, pick-operands, picked-pick}
+use borrow.Author.Needs.{needs}
+use Rattle.acceptor.proofs.straight.variable.Statement.{statement}
+use Rattle.acceptor.proofs.straight.variable.Tie as tie
+
+sub-if1 : tie.Need-sub-if1
+sub-if1 c = search needs
+
+doubt-requires : tie.Need-doubt-requires
+doubt-requires c κs = search needs
+
+returns : tie.Need-returns
+returns c = search needs
+
+operand-at-requires : tie.Need-operand-at-requires
+operand-at-requires c κs = let a = c .before .before .args in (omega (arith, variable-operands (getD (a .e .now) (a .at) 0) (omega arith)), omega (arith, variable-operands (getD (a .e .now) (a .at) 0) (omega arith)))
+
+doubt-requires-2 : tie.Need-doubt-requires-2
+doubt-requires-2 c κs = search needs
+
+returns-2 : tie.Need-returns-2
+returns-2 c = search needs
+
+by-row-requires : tie.Need-by-row-requires
+by-row-requires c κs = search needs
+
+returns-3 : tie.Need-returns-3
+returns-3 c = search needs
+
+pub variable-spec : {M : Type 1} → statement M
+variable-spec =
+    tie.close
+    (tie.spec
+    sub-if1
+    doubt-requires
+    returns
+    operand-at-requires
+    doubt-requires-2
+    returns-2
+    by-row-requires
+    returns-3)

@@ -1,0 +1,79 @@
+// What one instruction makes of the height with which it is reached, for the arms of both dispatches. Operands that are cut
+// short are not tested here: the next offset is then not below the length, and the pass is in doubt there.
+ghost use mathlib.Core.Path.{_≡_};
+ghost use mathlib.Core.Logic.{_≢_};
+ghost use Prim.Native.Nat.{_+_, _≤_, _<_};
+ghost use lib.ListN.{length};
+ghost use Rattle.isa.specs.Classes.{«kind-ext», «kind-variable», «kind-pick»};
+ghost use Rattle.isa.specs.Decode.{kindAt, operand, picked};
+ghost use Rattle.acceptor.specs.StraightCode.{«stop-on», «stop-doubt», ByRow};
+use crate::Effect;
+
+// An instruction behind which the pass does not go on by itself: a jump, an end, or doubt.
+pub(crate) fn halt(stop: u8, at: usize, height: usize) -> Effect
+    ensures { λ r. ⌜ r .stop ≡ stop ⌝ }
+{
+    Effect { stop, at, height }
+}
+
+// An instruction of that row, which has no rule of its own. It goes on as `stop` says.
+pub(crate) fn by_row(
+    at: usize,
+    height: usize,
+    stop: u8,
+    operands: usize,
+    needed: usize,
+    left: usize,
+) -> Effect
+    requires { ⌜ (at < 1024) × (height ≤ 2048) × (operands ≤ 8) × (left ≤ 512) ⌝ }
+    ensures { λ r. ⌜ ByRow stop at height operands needed left r ⌝ }
+{
+    if height < needed {
+        return halt(crate::DOUBT, at, height);
+    }
+    Effect {
+        stop,
+        at: at + 1 + operands,
+        height: height - needed + left,
+    }
+}
+
+// ext N: N is not 0.
+pub(crate) fn ext(e: &[u8], at: usize, height: usize) -> Effect
+    requires { ⌜ (at < length (now e)) × (length (now e) ≤ 1024) × (height ≤ 2048) × (kindAt (now e) at ≡ kind-ext) ⌝ }
+    ensures { λ r. ⌜ ByRow stop-on at height 1 1 1 r × (r .stop ≢ stop-doubt → 1 ≤ operand (now (e .entry)) at) ⌝ }
+{
+    if e.len() - at < 2 {
+        return halt(crate::DOUBT, at, height);
+    }
+    if isa::operand_at(e, at, 1) == 0 {
+        return halt(crate::DOUBT, at, height);
+    }
+    by_row(at, height, crate::ON, 1, 1, 1)
+}
+
+// A variable is below 64. It goes on as `stop` says.
+pub(crate) fn variable(e: &[u8], at: usize, height: usize, stop: u8, needed: usize) -> Effect
+    requires { ⌜ (at < length (now e)) × (length (now e) ≤ 1024) × (height ≤ 2048) × (kindAt (now e) at ≡ kind-variable) ⌝ }
+    ensures { λ r. ⌜ ByRow stop at height 2 needed 1 r × (r .stop ≢ stop-doubt → operand (now (e .entry)) at ≤ 63) ⌝ }
+{
+    if e.len() - at < 3 {
+        return halt(crate::DOUBT, at, height);
+    }
+    if 63 < isa::operand_at(e, at, 2) {
+        return halt(crate::DOUBT, at, height);
+    }
+    by_row(at, height, stop, 2, needed, 1)
+}
+
+// pick N: N comes on top of its row.
+pub(crate) fn pick(e: &[u8], at: usize, height: usize) -> Effect
+    requires { ⌜ (at < length (now e)) × (length (now e) ≤ 1024) × (height ≤ 2048) × (kindAt (now e) at ≡ kind-pick) ⌝ }
+    ensures { λ r. ⌜ ByRow stop-on at height 1 (1 + picked (now (e .entry)) at) (2 + picked (now (e .entry)) at) r ⌝ }
+{
+    if e.len() - at < 2 {
+        return halt(crate::DOUBT, at, height);
+    }
+    let n = isa::operand_at(e, at, 1) as usize;
+    by_row(at, height, crate::ON, 1, 1 + n, 2 + n)
+}

@@ -1,0 +1,67 @@
+use native.Mathlib.Omega.{arith}
+use mathlib.Core.Path.{refl}
+use Prim.Native.Nat.{_-_}
+use Rattle.isa.proofs.Promises.{start-in}
+use Rattle.passes.proofs.Aiming.{Aiming, aiming-start, aiming-turn, aiming-fault, aiming-end, noted-at}
+use borrow.Author.Needs.{needs}
+use Rattle.passes.proofs.pass2.aim.Statement.{statement}
+use Rattle.passes.proofs.pass2.aim.Tie as tie
+
+abbrev Inv-loop : tie.InvT-loop
+Inv-loop e marks jumps count i₀ i =
+    Aiming e count jumps i
+
+abbrev μ-loop : tie.MeasureT-loop
+μ-loop e marks jumps count i₀ i = count - i
+
+loop-holds : tie.Need-loop-holds Inv-loop μ-loop
+loop-holds c = aiming-start (c .before .before .before .pre .3)
+
+mul-at : tie.Need-mul-at Inv-loop μ-loop
+mul-at c = search needs
+
+shared-slice-read-at : tie.Need-shared-slice-read-at Inv-loop μ-loop
+shared-slice-read-at c = omega (arith, c .before .before .before .before .before .before .pre .3 .room)
+
+cast-at : tie.Need-cast-at Inv-loop μ-loop
+cast-at c =
+    let p = c .before .before .before .before .before .before .pre in record { fits = omega (arith, p .0, start-in _ _ (noted-at (p .3) _ (c .before .loop-test .taken) .0)) }
+
+fault-at-requires : tie.Need-fault-at-requires Inv-loop μ-loop
+fault-at-requires c κs =
+    let p = c .before .before .before .before .before .before .pre in let q = noted-at (p .3) _ (c .before .loop-test .taken) in (p .0, p .1, p .2, q .0, q .1)
+
+returns : tie.Need-returns Inv-loop μ-loop
+returns c =
+    aiming-fault (c .before .before .before .before .before .before .before .before .pre .3 .room) (c .before .before .before .before .loop .inv) (c .before .before .before .loop-test .taken) refl (c .before .fault-at .ensures) (c .if1 .taken)
+
+add-i : tie.Need-add-i Inv-loop μ-loop
+add-i c = search needs
+
+loop-less : tie.Need-loop-less Inv-loop μ-loop
+loop-less c = search needs
+
+loop-again : tie.Need-loop-again Inv-loop μ-loop
+loop-again c =
+    aiming-turn (c .before .before .before .before .before .before .before .before .pre .3 .room) (c .before .before .before .before .loop .inv) (c .before .before .before .loop-test .taken) (omega arith)
+
+returns-2 : tie.Need-returns-2 Inv-loop μ-loop
+returns-2 c =
+    aiming-end (c .before .before .before .before .before .pre .3 .room) (c .before .loop .inv) (c .loop-test .left)
+
+pub aim-spec : {M : Type 1} → statement M
+aim-spec =
+    tie.close
+    (tie.spec
+    Inv-loop
+    μ-loop
+    loop-holds
+    mul-at
+    shared-slice-read-at
+    cast-at
+    fault-at-requires
+    returns
+    add-i
+    loop-less
+    loop-again
+    returns-2)

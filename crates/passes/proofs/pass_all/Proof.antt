@@ -1,0 +1,93 @@
+use mathlib.Core.Path.{sym, _∙_}
+use Rattle.verdict.proofs.Cases.{verdict-1, verdict-2, verdict-3}
+use Rattle.passes.proofs.Answering.{aim-fine, aim-fault}
+use borrow.Author.Needs.{needs}
+use Rattle.passes.proofs.pass_all.Statement.{statement}
+use Rattle.passes.proofs.pass_all.Tie as tie
+
+scan-requires : tie.Need-scan-requires
+scan-requires c κs =
+    let p = c .before .before .before .before .before .before .before .pre in (p .0, (p .2, p .3))
+
+enum-known-number : tie.Need-enum-known-number
+enum-known-number c = search needs
+
+enum-known-count : tie.Need-enum-known-count
+enum-known-count c = search needs
+
+aim-requires : tie.Need-aim-requires
+aim-requires c κs =
+    let p = c .before .before .before .before .before .before .before .before .before .before .before .before .before .before .before .before .before .pre in let s = rw (c .before .before .before .count .given .1) at (c .before .before .before .before .before .before .before .before .before .scan .ensures) in (p .2, s .0, s .2, s .3)
+
+enum-known-number-2 : tie.Need-enum-known-number-2
+enum-known-number-2 c = search needs
+
+enum-told : tie.Need-enum-told
+enum-told c = search needs
+
+measure-requires : tie.Need-measure-requires
+measure-requires c κs =
+    let p = c .before .before .before .before .before .before .before .before .before .before .before .before .before .before .before .before .before .before .before .before .before .before .pre in let s = rw (c .before .before .before .before .before .before .before .before .count .given .1) at (c .before .before .before .before .before .before .before .before .before .before .before .before .before .before .scan .ensures) in (p .0, p .2, s .0, aim-fine _ (sym (c .before .before .enum-told .given .1) ∙ c .before .before .before .before .aim .ensures), p .4)
+
+conclude-requires : tie.Need-conclude-requires
+conclude-requires c κs = search needs
+
+same-length : tie.Need-same-length
+same-length c = search needs
+
+same-length-2 : tie.Need-same-length-2
+same-length-2 c = search needs
+
+returns : tie.Need-returns
+returns c =
+    let p = c .before .before .before .before .before .before .before .before .before .before .before .before .before .before .before .pre in verdict-1 _ (p .1) (p .2) _ _ (rw (c .before .number .given .1) at (c .before .before .before .before .before .before .before .scan .ensures))
+
+same-length-3 : tie.Need-same-length-3
+same-length-3 c = search needs
+
+same-length-4 : tie.Need-same-length-4
+same-length-4 c = search needs
+
+returns-2 : tie.Need-returns-2
+returns-2 c =
+    let p = c .before .before .before .before .before .before .before .before .before .before .before .before .before .before .before .before .before .before .before .before .before .pre in let s = rw (c .before .before .before .before .before .before .before .count .given .1) at (c .before .before .before .before .before .before .before .before .before .before .before .before .before .scan .ensures) in verdict-2 _ (p .1) (p .2) (s .0) _ _ (aim-fault _ _ _ (sym (c .before .number2 .given .1) ∙ c .before .before .before .aim .ensures))
+
+same-length-5 : tie.Need-same-length-5
+same-length-5 c = search needs
+
+same-length-6 : tie.Need-same-length-6
+same-length-6 c = search needs
+
+same-length-7 : tie.Need-same-length-7
+same-length-7 c = search needs
+
+same-length-8 : tie.Need-same-length-8
+same-length-8 c = search needs
+
+returns-3 : tie.Need-returns-3
+returns-3 c =
+    let p = c .before .before .before .before .before .before .before .before .before .before .before .before .before .before .before .before .before .before .before .before .before .before .before .before .before .before .before .before .pre in let s = rw (c .before .before .before .before .before .before .before .before .before .before .before .before .before .before .count .given .1) at (c .before .before .before .before .before .before .before .before .before .before .before .before .before .before .before .before .before .before .before .before .scan .ensures) in c .conclude .ensures _ _ (c .before .before .before .before .before .measure .ensures) (s .1) ∙ sym (verdict-3 _ (p .1) (p .2) (s .0) (aim-fine _ (sym (c .before .before .before .before .before .before .before .before .enum-told .given .1) ∙ c .before .before .before .before .before .before .before .before .before .before .aim .ensures)))
+
+pub pass-all-spec : {M : Type 1} → statement M
+pass-all-spec =
+    tie.close
+    (tie.spec
+    scan-requires
+    enum-known-number
+    enum-known-count
+    aim-requires
+    enum-known-number-2
+    enum-told
+    measure-requires
+    conclude-requires
+    same-length
+    same-length-2
+    returns
+    same-length-3
+    same-length-4
+    returns-2
+    same-length-5
+    same-length-6
+    same-length-7
+    same-length-8
+    returns-3)

@@ -1,0 +1,106 @@
+-- What users of `verifier` may cite: promises V1 to V5, and what an answer means. Nothing above this crate looks behind
+-- this page. The definitions that it names are in specs/: Verdict (the answer), Acceptance (what it means), and in
+-- `isa` Walk.
+use mathlib.Core.Bool.{true}
+use mathlib.Core.List.{List, [], _∷_, _++_}
+use mathlib.Core.Logic.{_↔_}
+use mathlib.Core.Path.{_≡_}
+use Prim.Native.Nat.{ℕ, _≤_, _<_}
+use native.Mathlib.Omega.{arith}
+use lib.ListN.{length}
+use Rattle.isa.specs.Classes.{kind-unsupported}
+use Rattle.isa.specs.Decode.{kindAt, next, heightAfter}
+use Rattle.isa.specs.Starts.{isStart}
+use Rattle.isa.specs.Walk.{After, Walk, stop, weigh}
+use Rattle.isa.proofs.Promises.{start-in, start-zero, walk-last, walk-on}
+use Rattle.verdict.specs.Pass3.{heaviest}
+use Rattle.verdict.specs.Verdict.{accepted, refused, verdict}
+use Rattle.verdict.specs.Acceptance.{WalksFit, Acceptable, GreatestHeight, MostIs, Accepted, Ready, Broken, OneHeight, Justified, Means}
+use Rattle.verdict.proofs.Decoded.{decodes-fits, decodes-known}
+use Rattle.verdict.proofs.Along.{after-later, walk-length}
+use Rattle.verdict.proofs.Endings.{follows}
+use Rattle.verdict.proofs.Meaning as meaning
+
+-- V1. The contract of `verify` (src/lib.rt): of any bytes e its answer, in document 01's number and values, is
+-- `verdict e`.
+
+module _ (e : List ℕ) where
+  -- V2, V4, V5. The answer is `accepted n g l` if and only if passes 1 and 2 hold, every walk fits, n is the number of
+  -- instructions, g is reached on a walk and exceeded on none, and some walk to an end has exactly l instructions and
+  -- none has more.
+  pub verdict-accepted : {n g l : ℕ} → (verdict e ≡ accepted n g l) ↔ Accepted e n g l
+  verdict-accepted = (λ p. rw p at (meaning.verdict-means e), meaning.accepted-verdict e)
+
+  -- V3. The answer is `refused r k` if and only if that refusal is justified: the size, the first start at fault, or
+  -- walks that show it at k, where none of 8 to 11 is met at a lower instruction and none of a lower number at k.
+  pub verdict-refused : {r k : ℕ} → (verdict e ≡ refused r k) ↔ Justified e r k
+  verdict-refused = (λ p. rw p at (meaning.verdict-means e), meaning.refused-verdict e)
+
+  -- So every answer is true;
+  pub means : Means e (verdict e)
+  means = meaning.verdict-means e
+
+  -- no two refusals of an expression are justified, and none is where it is accepted;
+  pub one-refusal : {r k s j : ℕ} → Justified e r k → Justified e s j → (r ≡ s) × (k ≡ j)
+  one-refusal x y = let p = verdict-refused .1 x in let q = verdict-refused .1 y in (cc, cc)
+
+  pub never-both : {n g l r k : ℕ} → Accepted e n g l → Justified e r k → ⊥
+  never-both x y = let p = verdict-accepted .1 x in let q = verdict-refused .1 y in let z : _≡_ {A = ℕ} 0 1 = cc in omega arith
+
+  -- and each number of an acceptance is one number.
+  pub one-greatest : {g h : ℕ} → GreatestHeight e g → GreatestHeight e h → g ≡ h
+  one-greatest = meaning.one-greatest e
+
+  pub one-most : {μ : List ℕ → ℕ} {l m : ℕ} → MostIs μ e l → MostIs μ e m → l ≡ m
+  one-most = meaning.one-most e
+
+  -- V2, V4, V5, one way, as others cite it.
+  pub accepted-means : {n g l : ℕ} → verdict e ≡ accepted n g l → Accepted e n g l
+  accepted-means = verdict-accepted .0
+
+  -- V2, the other way: where passes 1 and 2 hold and every walk fits, the expression is accepted.
+  pub fitting-accepted : Acceptable e → (n : ℕ) × (g : ℕ) × (l : ℕ) × (verdict e ≡ accepted n g l)
+  fitting-accepted = meaning.fits-accepted e
+
+  -- V3, of pass 3: a refusal from 8 up is shown by a walk, or two; no lower instruction is at fault; and heights do not
+  -- differ at k where the refusal is another.
+  pub refused-means : {r k : ℕ} → verdict e ≡ refused r k → 8 ≤ r → Broken e k r × WalksFit e k × (8 < r → OneHeight e k)
+  refused-means p h = meaning.late-broken e h (verdict-refused .0 p)
+
+  -- The number of a refusal is one of 1 to 11.
+  pub refused-number : {r k : ℕ} → verdict e ≡ refused r k → (1 ≤ r) × (r ≤ 11)
+  refused-number p = meaning.justified-number e (verdict-refused .0 p)
+
+  -- V5 over any weight f of the instructions: `heaviest f e` is the weight of some walk to an end, and none weighs
+  -- more.
+  pub weighted : (f : ℕ → ℕ) → Acceptable e → MostIs (weigh f) e (heaviest f e)
+  weighted = meaning.fits-most e
+
+  -- Every start, reached or not, is that of a supported instruction, with all its operands.
+  pub start-whole : Acceptable e → (k : ℕ) → isStart e k ≡ true → (kind-unsupported < kindAt e k) × (next e k ≤ length e)
+  start-whole a k s = (decodes-known e k (a .decodes) s, decodes-fits e k (a .decodes) s)
+
+  -- ---- what a runner needs, step by step
+  module _ {n g l : ℕ} (a : Accepted e n g l) where
+    -- it begins at offset 0 with an empty stack
+    pub begins : Walk e 0 0 (0 ∷ []) 0 0
+    begins = stop (start-zero e (a .acceptable .sized .some))
+
+    -- at the last instruction of a walk: opcode and operands are there, the cells are there, the result fits, and the
+    -- walk is no longer than l
+    pub ready : {w : List ℕ} {j u : ℕ} → Walk e 0 0 w j u → Ready e l w j u
+    ready = meaning.walk-ready e a
+
+    -- the longest walk has at most as many instructions as the expression has bytes
+    pub longest-length : l ≤ length e
+    longest-length =
+        let t = a .longest .shown .to-end in
+        omega (arith, a .longest .number, walk-length (a .acceptable .aims) (t .2), start-in e (t .0) (walk-last (t .2)))
+
+    -- whatever comes next is an instruction, so that the walk goes on
+    pub goes-on : {w : List ℕ} {j u m : ℕ} → Walk e 0 0 w j u → After e j m → Walk e 0 0 (w ++ (m ∷ [])) m (heightAfter e j u)
+    goes-on x t = walk-on x t (follows e (a .acceptable .walks) (a .acceptable .aims) x t)
+
+    -- and it stands after the instruction: no walk goes back
+    pub goes-forward : {w : List ℕ} {j u m : ℕ} → Walk e 0 0 w j u → After e j m → j < m
+    goes-forward x t = after-later (a .acceptable .aims) (walk-last x) t
