@@ -1,5 +1,5 @@
 -- The pass over code with jumps: the offsets told and met, and one start by its kind.
-use mathlib.Core.Bool.{Bool, true, false, cond}
+use mathlib.Core.Bool.{Bool, true, false}
 use mathlib.Core.List.{List, [], _∷_}
 use mathlib.Core.Path.{_≡_, refl, ap, sym, _∙_, subst}
 use mathlib.Core.Logic.{_≢_, _⊎_, inl, inr, ⊎-elim}
@@ -9,33 +9,32 @@ use native.Mathlib.Decide.{ℕ-discrete}
 use lib.ListN.{getD, length, set, replicate, length-set, length-replicate, getD-replicate}
 use lib.Seq.{getD-set-same, getD-set-other}
 use borrow.Author.Tests.{eq-eqb, ne-eqb, lt-leb}
-use Rattle.isa.specs.Classes.{kind-goto, kind-if-goto, kind-end}
-use Rattle.isa.specs.Decode.{kindAt, next, operand, needed, left, heightAfter}
+use Rattle.isa.specs.Classes.{kind, setv, kind-variable, kind-goto, kind-if-goto, kind-end}
+use Rattle.isa.specs.Decode.{classAt, kindAt, next, operand, needed, left, heightAfter}
 use Rattle.isa.specs.Starts.{starts, startsFrom, isStart}
 use Rattle.isa.specs.Walk.{one}
 use Rattle.isa.proofs.Promises.{after-by, needed-row, left-row, end-cells, from-end, from-next, start-next}
-use Rattle.verdict.specs.Fault.{none, first}
+use Rattle.verdict.specs.Fault.{first}
 use Rattle.verdict.specs.Pass1.{fault1, pass1, Decodes}
 use Rattle.verdict.specs.Pass2.{fault2, pass2, Aims}
-use Rattle.verdict.specs.Pass3.{unreached, differing, joined, arrive, raise, runsOff, fault3, pass3}
-use Rattle.verdict.specs.Verdict.{accepted, verdict}
-use Rattle.passes.specs.Tables.{Unmeasured, arrived, farther, Incoming, Effected, Told, Stepped, Halting, measureOf}
-use Rattle.acceptor.specs.StraightCode.{Ahead, Measuring, GoesOn, IsEnd, IsJump, IsIfGoto, IsGoto, Following}
-use Rattle.acceptor.specs.CodeWithJumps.{Brought, told, tally, Pending, ToldStarts, Joins, JoinsOr, JumpsOn, Jumped, Stands, Branching, Joined, Concluded, Turns}
+use Rattle.verdict.specs.Pass3.{unreached, joined, arrive, raise, runsOff, pass3}
+use Rattle.verdict.specs.Verdict.{accepted, verdict, SetsNothing}
+use Rattle.verdict.proofs.Decoded.{first-nil, first-ok, clear-holds}
+use Rattle.verdict.proofs.Faults.{f-plain, f-forward, off-goto, off-end, off-other, fault-none}
+use Rattle.verdict.proofs.Along.{joined-same, raises, if-kept, jumps-true}
+use Rattle.verdict.proofs.Cases.{verdict-3}
+use Rattle.passes.specs.Tables.{Unmeasured, Incoming, Effected, Told, Stepped, Measuring}
 use Rattle.passes.specs.declared.Step.{Step}
+use Rattle.passes.specs.declared.Flow.{Flow}
+use Rattle.passes.proofs.Measuring.{target-jump, told-none, joined-reached, incoming-flow, incoming-both, stepped-on, stepped-goto, stepped-end, turned-step, unmeasured-new, measuring-turn, measuring-end}
+use Rattle.passes.proofs.Answering.{measure-fine}
+use Rattle.acceptor.specs.StraightCode.{stop-on, stop-doubt, stop-accepted, GoesOn, IsEnd, IsJump, IsIfGoto, IsGoto, Quiet, Following, Straight}
+use Rattle.acceptor.specs.CodeWithJumps.{Brought, told, tally, Pending, ToldStarts, Joins, JoinsOr, JumpsOn, Jumped, Stands, Branching, Joined, Concluded, Turns}
 use Rattle.acceptor.specs.declared.Effect.{Effect}
 use Rattle.acceptor.specs.declared.Join.{Join}
 use Rattle.acceptor.specs.declared.Jump.{Jump}
-use Rattle.passes.specs.declared.Flow.{Flow}
 use Rattle.acceptor.specs.declared.State.{State}
-use Rattle.passes.specs.declared.Measure.the-variants.{Fine}
-use Rattle.verdict.proofs.Decoded.{first-nil, first-ok}
-use Rattle.passes.proofs.Scanning.{f-plain}
-use Rattle.passes.proofs.Aiming.{f-forward, f-other}
-use Rattle.verdict.proofs.Along.{joined-first, joined-same, raises, if-kept, jumps-true}
-use Rattle.passes.proofs.Measuring.{off-goto, off-end, off-other, fault-none, target-jump, told-none, joined-reached, incoming-flow, incoming-both, stepped-on, stepped-goto, stepped-end, turned-step, measuring-turn, measuring-end}
-use Rattle.passes.proofs.Answering.{measure-fine, verdict-3}
-use Rattle.acceptor.proofs.AlongStraight.{no-jump-low, no-jump-end}
+use Rattle.acceptor.proofs.AlongStraight.{quiet-next, quiet-last, no-jump-low, no-jump-end}
 
 -- ---- the number of offsets told
 told-new : (x : ℕ) → x ≡ unreached → told x ≡ 0
@@ -188,8 +187,8 @@ told-jump e k h d r hs ds hs′ ds′ a b p q = record {
 }
 
 -- ---- the loop
-pub branching-start : {e : List ℕ} {k h n g : ℕ} {hs ds : List ℕ} → length e ≤ 1024 → Following e k h n g → Unmeasured e hs ds
-    → Branching e (record { stop = 0; at = k; height = h; distance = n; count = n; greatest = g; longest = 0; noted = 0; met = 0 }) hs ds
+pub branching-start : {e : List ℕ} {k h n g : ℕ} {x : Bool} {hs ds : List ℕ} → length e ≤ 1024 → Following e k h n g x → Unmeasured e hs ds
+    → Branching e (record { stop = stop-on; at = k; height = h; distance = n; count = n; greatest = g; longest = 0; noted = 0; met = 0; sets = x }) hs ds
 branching-start {e} {k} {hs = hs} {ds = ds} short s u = record {
   stands = record {
     short = short;
@@ -209,11 +208,12 @@ branching-start {e} {k} {hs = hs} {ds = ds} short s u = record {
   near = s .few;
   pending = pending-start e k hs (u .no-height);
   measuring = s .measuring hs ds u;
+  quiet = s .quiet;
 }
 
 -- what jumps have brought meets what flows in
-pub joining : {e : List ℕ} {s : State} {hs ds : List ℕ} {r : Join} → Branching e s hs ds → JoinsOr (getD hs (s .at) 0) (getD ds (s .at) 0) (s .height) (s .distance) (s .met) r → r .stop ≡ 0
-    → Joined e (record { stop = 0; at = s .at; height = s .height; distance = r .distance; count = s .count; greatest = s .greatest; longest = s .longest; noted = s .noted; met = r .met }) hs ds
+pub joining : {e : List ℕ} {s : State} {hs ds : List ℕ} {r : Join} → Branching e s hs ds → JoinsOr (getD hs (s .at) 0) (getD ds (s .at) 0) (s .height) (s .distance) (s .met) r → r .stop ≡ stop-on
+    → Joined e (record { stop = stop-on; at = s .at; height = s .height; distance = r .distance; count = s .count; greatest = s .greatest; longest = s .longest; noted = s .noted; met = r .met; sets = s .sets }) hs ds
 joining {e} {s} {hs} {ds} {r} a w zero-stop =
     let k : ℕ = s .at in
     let st = a .stands in
@@ -226,6 +226,7 @@ joining {e} {s} {hs} {ds} {r} a w zero-stop =
       measuring = a .measuring;
       incoming = λ low d i.
           incoming-flow (getD hs k 0) (getD ds k 0) (s .height) (s .distance) (x .0) (a .measuring low d i .untold k (st .inside)) (omega (arith, st .highest));
+      quiet = a .quiet;
     }))
     (λ (x : (getD hs k 0 ≡ s .height) × (getD hs k 0 ≢ unreached) × (r .distance ≡ max (getD ds k 0) (s .distance)) × (r .met ≡ s .met + 1)). rw (x .2, x .3) (record {
       stands = st;
@@ -235,6 +236,7 @@ joining {e} {s} {hs} {ds} {r} a w zero-stop =
       measuring = a .measuring;
       incoming = λ low d i.
           incoming-both (getD hs k 0) (getD ds k 0) (s .height) (s .distance) (λ z. x .1 (x .0 ∙ z)) (sym (joined-same (getD hs k 0) (s .height) (x .0))) (omega (arith, st .highest)) refl;
+      quiet = a .quiet;
     }))
     (w .both zero-stop)
 
@@ -261,8 +263,11 @@ module _ {e : List ℕ} {k h n g t : ℕ} {hs ds : List ℕ} (st : Stands e k h 
         low = lo;
       }
 
-pub turns-doubt : {e : List ℕ} {k : ℕ} {r : State} {hs ds : List ℕ} → r .stop ≡ 1 → Turns e k r hs ds
-turns-doubt p = record { later = λ z. absurd (omega arith); on = λ z. absurd (omega arith); concluded = record { low = λ z. absurd (omega arith); accepts = λ z. absurd (omega arith) } }
+pub not-concluded : {e : List ℕ} {r : State} → r .stop ≢ stop-accepted → Concluded e r
+not-concluded p = record { low = λ z. absurd (p z); accepts = λ z. absurd (p z); quiet = λ z. absurd (p z) }
+
+pub turns-doubt : {e : List ℕ} {k : ℕ} {r : State} {hs ds : List ℕ} → r .stop ≡ stop-doubt → Turns e k r hs ds
+turns-doubt p = record { later = λ z. absurd (omega arith); on = λ z. absurd (omega arith); concluded = not-concluded (omega arith) }
 
 module _ {e : List ℕ} {s : State} {hs ds : List ℕ} (a : Joined e s hs ds) where
   -- the pass of the definition goes on
@@ -271,15 +276,19 @@ module _ {e : List ℕ} {s : State} {hs ds : List ℕ} (a : Joined e s hs ds) wh
   branch-measured low d i x z =
       measuring-turn (a .measuring low d i) (a .stands .inside) (turned-step (a .incoming low d i) (omega (arith, a .stands .highest)) x) z
 
+  -- behind an instruction that is no variable's
+  quiet-past : kindAt e (s .at) ≢ kind-variable → Quiet e (next e (s .at)) (s .sets)
+  quiet-past p = quiet-next e (s .at) (a .stands .start) (a .quiet) (λ z. (z, λ y. p (ap kind y)))
+
   -- an instruction that the next start follows
-  pub turned-on : {w : Effect} → GoesOn e (s .at) (s .height) w → (x : ℕ) → x ≡ max (s .greatest) (w .height)
-      → Turns e (s .at) (record { stop = 0; at = w .at; height = w .height; distance = s .distance + 1; count = s .count + 1; greatest = x; longest = s .longest; noted = s .noted; met = s .met }) hs ds
-  turned-on {w} y x p =
+  pub turned-on : {w : Effect} → GoesOn e (s .at) (s .height) w → (x : ℕ) → x ≡ max (s .greatest) (w .height) → {q : Bool} → (q ≡ false → (s .sets ≡ false) × (classAt e (s .at) ≢ setv))
+      → Turns e (s .at) (record { stop = stop-on; at = w .at; height = w .height; distance = s .distance + 1; count = s .count + 1; greatest = x; longest = s .longest; noted = s .noted; met = s .met; sets = q }) hs ds
+  turned-on {w} y x p q =
       let k : ℕ = s .at in
       let st = a .stands in
       record {
         later = λ _. omega (arith, y .at-is);
-        concluded = record { low = λ z. absurd (omega arith); accepts = λ z. absurd (omega arith) };
+        concluded = not-concluded (omega arith);
         on = λ _ i. rw (p, y .height-is, y .at-is) (let j : next e k < length e = omega (arith, y .at-is) in record {
           stands = stands-next st (y .clear (omega arith)) j (λ u. (u, no-jump-low e k (y .straight))) (omega arith) (omega (arith, st .lower, y .low, y .height-is)) (omega (arith, st .few-told))
               (st .heights-long) (st .distances-long) (λ m. omega (arith, st .low m));
@@ -292,6 +301,7 @@ module _ {e : List ℕ} {s : State} {hs ds : List ℕ} (a : Joined e s hs ds) wh
               (sym (off-other e k (next e k) (omega (arith, y .straight)) (omega (arith, y .straight)) refl) ∙ lt-leb (length e) (next e k) j) _ refl)
               (told-none e k (s .height) (s .distance) _ hs ds (omega (arith, y .straight)) (omega (arith, y .straight))))
               refl;
+          quiet = quiet-next e k (st .start) (a .quiet) q;
         });
       }
 
@@ -340,22 +350,23 @@ module _ {e : List ℕ} {s : State} {hs ds : List ℕ} (a : Joined e s hs ds) wh
     jump-tells x = told-jump e (s .at) (s .height) (s .distance) x hs ds hs′ ds′ (b .least) (b .most) (w .heights-are) (w .distances-are)
 
   pub turned-if : IsIfGoto e (s .at) → {r : Jump} {hs′ ds′ : List ℕ} → JumpsOn e (s .at) (s .height) (s .distance) (s .noted) hs ds r hs′ ds′
-      → Turns e (s .at) (record { stop = 0; at = s .at + 3; height = r .height; distance = s .distance + 1; count = s .count + 1; greatest = s .greatest; longest = s .longest; noted = r .noted; met = s .met }) hs′ ds′
+      → Turns e (s .at) (record { stop = stop-on; at = s .at + 3; height = r .height; distance = s .distance + 1; count = s .count + 1; greatest = s .greatest; longest = s .longest; noted = r .noted; met = s .met; sets = s .sets }) hs′ ds′
   turned-if c {r} {hs′} {ds′} w =
       let k : ℕ = s .at in
-      let b = c .branches in
+      let b = c .jump in
       let i : next e k < length e = omega (arith, b .next-is, w .room) in
       record {
         later = λ _. omega arith;
-        concluded = record { low = λ z. absurd (omega arith); accepts = λ z. absurd (omega arith) };
+        concluded = not-concluded (omega arith);
         on = λ _ _. rw (w .height-is)
             (subst
-            (λ (x : ℕ). Branching e (record { stop = 0; at = x; height = heightAfter e k (s .height); distance = s .distance + 1; count = s .count + 1; greatest = s .greatest; longest = s .longest; noted = r .noted; met = s .met }) hs′ ds′)
+            (λ (x : ℕ). Branching e (record { stop = stop-on; at = x; height = heightAfter e k (s .height); distance = s .distance + 1; count = s .count + 1; greatest = s .greatest; longest = s .longest; noted = r .noted; met = s .met; sets = s .sets }) hs′ ds′)
             (b .next-is)
             (record {
               stands = jump-stands b w (omega (arith, jump-after b w, a .stands .highest)) (omega (arith, jump-after b w, w .low));
               near = omega (arith, a .near);
               pending = jump-pending b w;
+              quiet = quiet-past (omega (arith, c .kind-is));
               measuring = λ low d v.
                   branch-measured low d v
                   (stepped-on e k (s .height) (s .distance) (s .greatest) (s .longest) (omega (arith, c .kind-is)) (omega (arith, c .kind-is))
@@ -367,24 +378,25 @@ module _ {e : List ℕ} {s : State} {hs ds : List ℕ} (a : Joined e s hs ds) wh
 
   pub turned-goto : IsGoto e (s .at) → {r : Jump} {hs′ ds′ : List ℕ} → JumpsOn e (s .at) (s .height) (s .distance) (s .noted) hs ds r hs′ ds′
       → {f : Flow} → Brought hs′ ds′ (s .at + 3) f → f .height ≤ s .greatest
-      → Turns e (s .at) (record { stop = 0; at = s .at + 3; height = f .height; distance = f .distance; count = s .count + 1; greatest = s .greatest; longest = s .longest; noted = r .noted; met = s .met }) hs′ ds′
+      → Turns e (s .at) (record { stop = stop-on; at = s .at + 3; height = f .height; distance = f .distance; count = s .count + 1; greatest = s .greatest; longest = s .longest; noted = r .noted; met = s .met; sets = s .sets }) hs′ ds′
   turned-goto c {r} {hs′} {ds′} w {f} x low =
       let k : ℕ = s .at in
-      let b = c .branches in
+      let b = c .jump in
       let p : f .height ≡ getD hs′ (next e k) 0 = x .height-is ∙ ap (λ (i : ℕ). getD hs′ i 0) (sym (b .next-is)) in
       let q : f .distance ≡ getD ds′ (next e k) 0 = x .distance-is ∙ ap (λ (i : ℕ). getD ds′ i 0) (sym (b .next-is)) in
       let st : Stands e (next e k) (f .height) (s .count + 1) (s .greatest) (r .noted) hs′ ds′ = jump-stands b w low (omega (arith, x .small)) in
       record {
         later = λ _. omega arith;
-        concluded = record { low = λ z. absurd (omega arith); accepts = λ z. absurd (omega arith) };
+        concluded = not-concluded (omega arith);
         on = λ _ _.
             subst
-            (λ (y : ℕ). Branching e (record { stop = 0; at = y; height = f .height; distance = f .distance; count = s .count + 1; greatest = s .greatest; longest = s .longest; noted = r .noted; met = s .met }) hs′ ds′)
+            (λ (y : ℕ). Branching e (record { stop = stop-on; at = y; height = f .height; distance = f .distance; count = s .count + 1; greatest = s .greatest; longest = s .longest; noted = r .noted; met = s .met; sets = s .sets }) hs′ ds′)
             (b .next-is)
             (record {
               stands = st;
               near = omega (arith, q, st .low (next e k));
               pending = jump-pending b w;
+              quiet = quiet-past (omega (arith, c .kind-is));
               measuring = λ l d v.
                   brought-in (f .height) (f .distance)
                   (branch-measured l d v
@@ -418,7 +430,7 @@ module _ {e : List ℕ} {s : State} {hs ds : List ℕ} (a : Joined e s hs ds) wh
         refl
 
     pub turned-end : s .at + 1 < length e → {f : Flow} → Brought hs ds (s .at + 1) f → f .height ≤ s .greatest → (y : ℕ) → y ≡ max (s .longest) (s .distance + 1)
-        → Turns e (s .at) (record { stop = 0; at = s .at + 1; height = f .height; distance = f .distance; count = s .count + 1; greatest = s .greatest; longest = y; noted = s .noted; met = s .met }) hs ds
+        → Turns e (s .at) (record { stop = stop-on; at = s .at + 1; height = f .height; distance = f .distance; count = s .count + 1; greatest = s .greatest; longest = y; noted = s .noted; met = s .met; sets = s .sets }) hs ds
     turned-end i {f} o low y z =
         let k : ℕ = s .at in
         let p : f .height ≡ getD hs (next e k) 0 = o .height-is ∙ ap (λ (j : ℕ). getD hs j 0) (sym (x .next-is)) in
@@ -428,15 +440,16 @@ module _ {e : List ℕ} {s : State} {hs ds : List ℕ} (a : Joined e s hs ds) wh
         (a .stands .heights-long) (a .stands .distances-long) (λ j. omega (arith, a .stands .low j)) in
         record {
           later = λ _. omega arith;
-          concluded = record { low = λ w. absurd (omega arith); accepts = λ w. absurd (omega arith) };
+          concluded = not-concluded (omega arith);
           on = λ _ _.
               subst
-              (λ (m : ℕ). Branching e (record { stop = 0; at = m; height = f .height; distance = f .distance; count = s .count + 1; greatest = s .greatest; longest = y; noted = s .noted; met = s .met }) hs ds)
+              (λ (m : ℕ). Branching e (record { stop = stop-on; at = m; height = f .height; distance = f .distance; count = s .count + 1; greatest = s .greatest; longest = y; noted = s .noted; met = s .met; sets = s .sets }) hs ds)
               (x .next-is)
               (record {
                 stands = st;
                 near = omega (arith, q, st .low (next e k));
                 pending = pending-on (next e k) (omega arith) (a .pending);
+                quiet = quiet-past (omega (arith, x .kind-is));
                 measuring = λ l d v. brought-in (f .height) (f .distance) (end-measured y z l d v) p q (omega arith);
               });
         }
@@ -446,32 +459,39 @@ module _ {e : List ℕ} {s : State} {hs ds : List ℕ} (a : Joined e s hs ds) wh
       last-from = from-next e (s .at) (a .stands .inside) ∙ ap (λ (ks : List ℕ). s .at ∷ ks) (from-end e (next e (s .at)) (omega (arith, x .next-is)))
 
       last-decodes : Decodes e
-      last-decodes = sym (a .stands .same1) ∙ rw last-from (first-ok (fault1 e) (s .at) [] end-clear ∙ first-nil (fault1 e))
+      last-decodes = clear-holds (fault1 e) e .0 (sym (a .stands .same1) ∙ rw last-from (first-ok (fault1 e) (s .at) [] end-clear ∙ first-nil (fault1 e)))
 
       last-aims : Aims e
-      last-aims = sym (a .stands .aims (pending-end (a .pending) same)) ∙ rw last-from (first-ok (fault2 e) (s .at) [] (no-jump-end e (s .at) (x .kind-is)) ∙ first-nil (fault2 e))
+      last-aims =
+          clear-holds (fault2 e) e .0
+          (sym (a .stands .aims (pending-end (a .pending) same)) ∙ rw last-from (first-ok (fault2 e) (s .at) [] (no-jump-end e (s .at) (x .kind-is)) ∙ first-nil (fault2 e)))
 
-      pub turned-last : (y : ℕ) → y ≡ max (s .longest) (s .distance + 1) → accepted (s .count + 1) (s .greatest) y ≡ verdict e
-      turned-last y z =
+      last-accepted : (y : ℕ) → y ≡ max (s .longest) (s .distance + 1) → accepted (s .count + 1) (s .greatest) y ≡ verdict e
+      last-accepted y z =
           let q : s .count + length (s .at ∷ []) ≡ length (starts e) = rw last-from at (a .stands .count) in
           measure-fine (s .count + 1) (s .greatest) y e (pass3 one e) (measuring-end (end-measured y z low last-decodes last-aims) (omega (arith, x .next-is))) (omega arith)
           ∙ sym (verdict-3 e (omega (arith, a .stands .inside)) (a .stands .short) last-decodes last-aims)
 
-pub turns-last : {e : List ℕ} {k : ℕ} {r : State} {hs ds : List ℕ} → r .stop ≡ 2 → r .greatest ≤ 64 → accepted (r .count) (r .greatest) (r .longest) ≡ verdict e → Turns e k r hs ds
-turns-last p l q = record { later = λ z. absurd (omega arith); on = λ z. absurd (omega arith); concluded = record { low = λ _. l; accepts = λ _. q } }
+      -- an end that is the last byte: accepted
+      pub concluded-last : (y h d : ℕ) → y ≡ max (s .longest) (s .distance + 1)
+          → Concluded e (record { stop = stop-accepted; at = s .at; height = h; distance = d; count = s .count + 1; greatest = s .greatest; longest = y; noted = s .noted; met = s .met; sets = s .sets })
+      concluded-last y _ _ z = record { low = λ _. low; accepts = λ _. last-accepted y z; quiet = λ _. quiet-last e (s .at) (a .stands .start) x last (a .quiet) }
+
+pub turns-last : {e : List ℕ} {k : ℕ} {r : State} {hs ds : List ℕ} → r .stop ≡ stop-accepted → Concluded e r → Turns e k r hs ds
+turns-last p c = record { later = λ z. absurd (omega arith); on = λ z. absurd (omega arith); concluded = c }
 
 -- ---- the answers of the code's functions
 module _ {c b h d m : ℕ} where
-  pub joins-first : c ≡ unreached → JoinsOr c b h d m (record { stop = 0; distance = d; met = m })
+  pub joins-first : c ≡ unreached → JoinsOr c b h d m (record { stop = stop-on; distance = d; met = m })
   joins-first p = record { both = λ _. inl (p, refl, refl) }
 
-  pub joins-doubt : {x y : ℕ} → JoinsOr c b h d m (record { stop = 1; distance = x; met = y })
+  pub joins-doubt : {x y : ℕ} → JoinsOr c b h d m (record { stop = stop-doubt; distance = x; met = y })
   joins-doubt = record { both = λ z. absurd (omega arith) }
 
-  pub joins-both : {x : ℕ} → c ≡ h → c ≢ unreached → x ≡ max b d → JoinsOr c b h d m (record { stop = 0; distance = x; met = m + 1 })
+  pub joins-both : {x : ℕ} → c ≡ h → c ≢ unreached → x ≡ max b d → JoinsOr c b h d m (record { stop = stop-on; distance = x; met = m + 1 })
   joins-both p q r = record { both = λ _. inr (p, q, r, refl) }
 
-pub jumped-doubt : {e : List ℕ} {k h d t : ℕ} {hs ds : List ℕ} {r : Jump} {hs′ ds′ : List ℕ} → r .stop ≡ 1 → Jumped e k h d t hs ds r hs′ ds′
+pub jumped-doubt : {e : List ℕ} {k h d t : ℕ} {hs ds : List ℕ} {r : Jump} {hs′ ds′ : List ℕ} → r .stop ≡ stop-doubt → Jumped e k h d t hs ds r hs′ ds′
 jumped-doubt p = record { on = λ z. absurd (omega arith) }
 
 pub jumped-by : {e : List ℕ} {k h d t : ℕ} {hs ds : List ℕ} {r : Jump} {hs′ ds′ : List ℕ} (n x : ℕ) → IsJump e k n → k + 3 < length e → h ≤ 64 → n ≤ h → x ≡ operand e k → k < x → x < length e
@@ -494,5 +514,10 @@ jumped-by {e} {k} {h} {d} {t} {hs} {ds} n x b room low cells p forward inside he
       };
     }
 
-pub concluded-doubt : {e : List ℕ} {r : State} → r .stop ≡ 1 → Concluded e r
-concluded-doubt p = record { low = λ z. absurd (omega arith); accepts = λ z. absurd (omega arith) }
+-- the same for straight code, which has no jump: nothing is noted, and nothing is met
+module _ {e : List ℕ} {k h n g : ℕ} {x : Bool} (f : Following e k h n g x) (c : IsEnd e k) (last : k + 1 ≡ length e) (low : g ≤ 64) (short : length e ≤ 1024) where
+  pub straight-last : Straight e (record { stop = stop-accepted; at = k; height = h; count = n + 1; greatest = g; sets = x })
+  straight-last =
+      let u = unmeasured-new e 1024 short in
+      let r = concluded-last (joining {r = record { stop = stop-on; distance = n; met = 0 }} (branching-start short f u) (joins-first (u .no-height k (f .inside))) refl) c last refl low (n + 1) 0 0 (omega arith) in
+      record { low = λ _. low; accepts = λ _. r .accepts refl; quiet = λ _. r .quiet refl; following = λ _ z. absurd (z refl) }

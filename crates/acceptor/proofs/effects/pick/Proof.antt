@@ -1,16 +1,16 @@
 use native.Mathlib.Omega.{arith}
 use lib.ListN.{getD}
-use Rattle.isa.proofs.Promises.{ext-operands, variable-operands, pick-operands, picked-pick}
-use Rattle.acceptor.proofs.AlongStraight.{row-pick}
+use Rattle.isa.proofs.Promises.{pick-operands}
+use Rattle.acceptor.proofs.Instructions.{row-pick}
 use borrow.Author.Needs.{needs}
-use Rattle.acceptor.proofs.straight.pick.Statement.{statement}
-use Rattle.acceptor.proofs.straight.pick.Tie as tie
+use Rattle.acceptor.proofs.effects.pick.Statement.{statement}
+use Rattle.acceptor.proofs.effects.pick.Tie as tie
 
 sub-if1 : tie.Need-sub-if1
 sub-if1 c = search needs
 
-doubt-requires : tie.Need-doubt-requires
-doubt-requires c κs = search needs
+halt-requires : tie.Need-halt-requires
+halt-requires c κs = search needs
 
 returns : tie.Need-returns
 returns c = search needs
@@ -18,11 +18,11 @@ returns c = search needs
 operand-at-requires : tie.Need-operand-at-requires
 operand-at-requires c κs = let a = c .before .before .args in (omega (arith, pick-operands (getD (a .e .now) (a .at) 0) (omega arith)), omega (arith, pick-operands (getD (a .e .now) (a .at) 0) (omega arith)))
 
-add-plain : tie.Need-add-plain
-add-plain c = search needs
+add-by-row : tie.Need-add-by-row
+add-by-row c = search needs
 
-add-plain-2 : tie.Need-add-plain-2
-add-plain-2 c = search needs
+add-by-row-2 : tie.Need-add-by-row-2
+add-by-row-2 c = search needs
 
 by-row-requires : tie.Need-by-row-requires
 by-row-requires c κs = search needs
@@ -35,10 +35,10 @@ pick-spec =
     tie.close
     (tie.spec
     sub-if1
-    doubt-requires
+    halt-requires
     returns
     operand-at-requires
-    add-plain
-    add-plain-2
+    add-by-row
+    add-by-row-2
     by-row-requires
     returns-2)

@@ -1,15 +1,15 @@
 use native.Mathlib.Omega.{arith}
 use lib.ListN.{getD}
-use Rattle.isa.proofs.Promises.{ext-operands, variable-operands, pick-operands, picked-pick}
+use Rattle.isa.proofs.Promises.{ext-operands}
 use borrow.Author.Needs.{needs}
-use Rattle.acceptor.proofs.straight.ext.Statement.{statement}
-use Rattle.acceptor.proofs.straight.ext.Tie as tie
+use Rattle.acceptor.proofs.effects.ext.Statement.{statement}
+use Rattle.acceptor.proofs.effects.ext.Tie as tie
 
 sub-if1 : tie.Need-sub-if1
 sub-if1 c = search needs
 
-doubt-requires : tie.Need-doubt-requires
-doubt-requires c κs = search needs
+halt-requires : tie.Need-halt-requires
+halt-requires c κs = search needs
 
 returns : tie.Need-returns
 returns c = search needs
@@ -17,8 +17,8 @@ returns c = search needs
 operand-at-requires : tie.Need-operand-at-requires
 operand-at-requires c κs = let a = c .before .before .args in (omega (arith, ext-operands (getD (a .e .now) (a .at) 0) (omega arith)), omega (arith, ext-operands (getD (a .e .now) (a .at) 0) (omega arith)))
 
-doubt-requires-2 : tie.Need-doubt-requires-2
-doubt-requires-2 c κs = search needs
+halt-requires-2 : tie.Need-halt-requires-2
+halt-requires-2 c κs = search needs
 
 returns-2 : tie.Need-returns-2
 returns-2 c = search needs
@@ -34,10 +34,10 @@ ext-spec =
     tie.close
     (tie.spec
     sub-if1
-    doubt-requires
+    halt-requires
     returns
     operand-at-requires
-    doubt-requires-2
+    halt-requires-2
     returns-2
     by-row-requires
     returns-3)
