@@ -8,6 +8,7 @@ use native.Mathlib.Nat.{zero-add}
 use native.Mathlib.Omega.{arith}
 use lib.ListN.{getD, length, replicate}
 use borrow.Author.Tests.{lt-leb}
+use Rattle.encoding.proofs.Promises.{no-true}
 use Rattle.isa.specs.Classes.{kind, setv, kind-variable, kind-goto, kind-end}
 use Rattle.isa.specs.Decode.{classAt, kindAt, next, heightAfter}
 use Rattle.isa.specs.Starts.{starts, startsFrom, isStart}
@@ -26,7 +27,7 @@ use Rattle.passes.specs.declared.Step.{Step}
 use Rattle.passes.specs.declared.Measure.the-variants.{Fine}
 use Rattle.passes.proofs.Measuring.{told-none, incoming-flow, stepped-on, stepped-end, turned-step, unmeasured-new, measuring-start, measuring-turn, measuring-end}
 use Rattle.passes.proofs.Answering.{measure-fine}
-use Rattle.acceptor.specs.StraightCode.{stop-doubt, stop-end, stop-sets, stop-accepted, GoesOn, IsEnd, HasEffect, Quiet, Following, Followed, Straight}
+use Rattle.acceptor.specs.StraightCode.{stop-on, stop-doubt, stop-end, stop-sets, stop-accepted, GoesOn, IsEnd, HasEffect, Quiet, Following, Followed, Straight}
 use Rattle.acceptor.specs.declared.Effect.{Effect}
 use Rattle.acceptor.specs.declared.Stop.{Stop}
 
@@ -104,6 +105,13 @@ module _ {e : List ℕ} {k h n g : ℕ} {x : Bool} (s : Following e k h n g x) w
   pub following-on : {r : Effect} → GoesOn e k h r → (m : ℕ) → m ≡ max g (r .height) → r .at < length e → {y : Bool} → (y ≡ false → (x ≡ false) × (classAt e k ≢ setv))
       → Following e (r .at) (r .height) (n + 1) m y
   following-on w m p i q = rw (p, w .height-is, w .at-is) (following-next w (omega (arith, w .at-is)) q)
+
+-- ---- both ways on: y tells of a setv behind the instruction, x before it
+pub goes-on : {e : List ℕ} {k h : ℕ} {r : Effect} {x y : Bool} → HasEffect e k h r → ((r .stop ≡ stop-sets) × (y ≡ true)) ⊎ ((r .stop ≡ stop-on) × (y ≡ x))
+    → GoesOn e k h r × (y ≡ false → (x ≡ false) × (classAt e k ≢ setv))
+goes-on w =
+    ⊎-elim (λ c. (w .sets (c .0), λ z. no-true (sym z ∙ c .1)))
+    (λ c. (w .on (c .0), λ z. (sym (c .1) ∙ z, w .quiet (omega (arith, c .0)) (omega (arith, c .0)))))
 
 -- ---- where the loop stops
 pub followed-stop : {e : List ℕ} {k h n g : ℕ} {x : Bool} {r : Effect} → Following e k h n g x → n ≤ 1032 → HasEffect e k h r

@@ -11,7 +11,7 @@ use lib.Dec.{T, eqb}
 use types.Run.{OneOf}
 use borrow.Author.Tests.{eqb-true}
 use Rattle.encoding.proofs.Promises.{and-left, and-right}
-use Rattle.isa.specs.Classes.{classOf, row, kind, setv, kind-ext, kind-variable, kind-plain, kind-pick, kind-goto, kind-if-goto, kind-end}
+use Rattle.isa.specs.Classes.{opcodes, classOf, row, kind, setv, kind-ext, kind-variable, kind-plain, kind-pick, kind-goto, kind-if-goto, kind-end}
 use Rattle.isa.specs.Decode.{classAt, kindAt, next, operand, picked, needed, left}
 use Rattle.isa.proofs.Promises.{picked-pick, needed-row, left-row, needed-by, left-by, after-by}
 use Rattle.isa.specs.declared.Row.{Row}
@@ -22,14 +22,14 @@ use Rattle.acceptor.specs.StraightCode.{stop-on, stop-doubt, stop-if-got
 use Rattle.acceptor.specs.declared.Effect.{Effect}
 
 -- ---- the row of an arm: operand bytes o, cells needed n and left m, kind q
-abbrev pub Lined : ℕ → ℕ → ℕ → ℕ → ℕ → Type 0
+abbrev Lined : ℕ → ℕ → ℕ → ℕ → ℕ → Type 0
 Lined o n m q op = IsRow op (record { operands = o; needed = n; left = m; kind = q })
 
-abbrev pub lined : ℕ → ℕ → ℕ → ℕ → ℕ → Bool
+abbrev lined : ℕ → ℕ → ℕ → ℕ → ℕ → Bool
 lined o n m q op =
     (eqb (getD (row (classOf op)) 0 0) o && eqb (getD (row (classOf op)) 1 0) n) && (eqb (getD (row (classOf op)) 2 0) m && eqb (kind (classOf op)) q)
 
-abbrev pub allLined : ℕ → ℕ → ℕ → ℕ → List ℕ → Bool
+abbrev allLined : ℕ → ℕ → ℕ → ℕ → List ℕ → Bool
 allLined o n m q [] = true
 allLined o n m q (k ∷ ks) = lined o n m q k && allLined o n m q ks
 
@@ -50,7 +50,7 @@ module _ (o n m q : ℕ) where
       }
 
   -- an opcode that is one of an arm's has the arm's row
-  pub these : (op k : ℕ) (ks : List ℕ) → T (allLined o n m q (k ∷ ks)) → OneOf (k ∷ ks) op → Lined o n m q op
+  these : (op k : ℕ) (ks : List ℕ) → T (allLined o n m q (k ∷ ks)) → OneOf (k ∷ ks) op → Lined o n m q op
   these op k [] t p = rw p (lined-is k (and-left (lined o n m q k) true t))
   these op k (j ∷ ks) t p =
       ⊎-elim
@@ -111,14 +111,14 @@ module _ (e : List ℕ) (k h s o n m : ℕ) {r : Effect} (w : ByRow s k h o n m 
       let p : kindAt e k ≢ kind-pick = omega (arith, l .kind-is) in
       goes-on-by q (l .operands-is) (needed-row e k n (l .needed-is) p) (left-row e k m (l .left-is) p) (sym (l .kind-is)) (omega arith) (f z) z
 
-pub effect-plain : (e : List ℕ) (k h o n m : ℕ) {r : Effect} → ByRow stop-on k h o n m r → o ≤ 8 → m ≤ n + 1 → Lined o n m kind-plain (getD e k 0) → HasEffect e k h r
+effect-plain : (e : List ℕ) (k h o n m : ℕ) {r : Effect} → ByRow stop-on k h o n m r → o ≤ 8 → m ≤ n + 1 → Lined o n m kind-plain (getD e k 0) → HasEffect e k h r
 effect-plain e k h o n m w few grows l =
     effect-on e k h (on-or-doubt e k h stop-on o n m w few grows refl)
     (goes-on-lined e k h stop-on o n m w few grows kind-plain l (omega arith)
     (λ _ f. sym (f-plain e k f (omega (arith, l .kind-is)) (omega (arith, l .kind-is)) (omega (arith, l .kind-is)))))
     (not-kind e k (omega (arith, l .kind-is)))
 
-pub effect-ext : (e : List ℕ) (k h : ℕ) {r : Effect} → ByRow stop-on k h 1 1 1 r → Lined 1 1 1 kind-ext (getD e k 0) → (r .stop ≢ stop-doubt → 1 ≤ operand e k) → HasEffect e k h r
+effect-ext : (e : List ℕ) (k h : ℕ) {r : Effect} → ByRow stop-on k h 1 1 1 r → Lined 1 1 1 kind-ext (getD e k 0) → (r .stop ≢ stop-doubt → 1 ≤ operand e k) → HasEffect e k h r
 effect-ext e k h w l x =
     effect-on e k h (on-or-doubt e k h stop-on 1 1 1 w (omega arith) (omega arith) refl)
     (goes-on-lined e k h stop-on 1 1 1 w (omega arith) (omega arith) kind-ext l (omega arith) (λ z f. sym (f-ext-some e k f (sym (l .kind-is)) (omega (arith, x z)))))
@@ -129,17 +129,17 @@ module _ (e : List ℕ) (k h s n : ℕ) {r : Effect} (w : ByRow s k h 2 n 1 r) (
   goes-on-variable : r .stop ≢ stop-doubt → GoesOn e k h r
   goes-on-variable = goes-on-lined e k h s 2 n 1 w (omega arith) (omega arith) kind-variable l (omega arith) (λ z f. sym (f-variable-low e k f (sym (l .kind-is)) (x z)))
 
-  pub effect-variable : s ≡ stop-on → n ≡ 0 → HasEffect e k h r
+  effect-variable : s ≡ stop-on → n ≡ 0 → HasEffect e k h r
   effect-variable p q =
       effect-on e k h (on-or-doubt e k h s 2 n 1 w (omega arith) (omega arith) p) goes-on-variable (not-needed e k (sym q ∙ l .needed-is))
 
-  pub effect-setv : s ≡ stop-sets → HasEffect e k h r
+  effect-setv : s ≡ stop-sets → HasEffect e k h r
   effect-setv p = effect-sets e k h (λ z. w .either z ∙ p) goes-on-variable
 
 pub row-pick : (e : List ℕ) (k h n : ℕ) {r : Effect} → ByRow stop-on k h 1 (1 + n) (2 + n) r → n ≡ operand e k → kindAt e k ≡ kind-pick → ByRow stop-on k h 1 (1 + picked e k) (2 + picked e k) r
 row-pick e k h n w p q = rw (picked-pick e k n p q) at w
 
-pub effect-pick : (e : List ℕ) (k h : ℕ) {r : Effect} → ByRow stop-on k h 1 (1 + picked e k) (2 + picked e k) r → Lined 1 1 2 kind-pick (getD e k 0) → HasEffect e k h r
+effect-pick : (e : List ℕ) (k h : ℕ) {r : Effect} → ByRow stop-on k h 1 (1 + picked e k) (2 + picked e k) r → Lined 1 1 2 kind-pick (getD e k 0) → HasEffect e k h r
 effect-pick e k h w l =
     effect-on e k h (on-or-doubt e k h stop-on 1 (1 + picked e k) (2 + picked e k) w (omega arith) (omega arith) refl)
     (goes-on-by e k h stop-on 1 (1 + picked e k) (2 + picked e k) w (omega arith) (omega arith) kind-pick (l .operands-is) (needed-by e k 1 (picked e k) (l .needed-is) refl)
@@ -171,19 +171,19 @@ module _ (e : List ℕ) (k h : ℕ) {r : Effect} where
     quiet = λ z _. not-kind e k (v z);
   }
 
-  pub effect-if-goto : r .stop ≡ stop-if-goto → Lined 2 1 0 kind-if-goto (getD e k 0) → HasEffect e k h r
+  effect-if-goto : r .stop ≡ stop-if-goto → Lined 2 1 0 kind-if-goto (getD e k 0) → HasEffect e k h r
   effect-if-goto s l =
       effect-halt (omega arith) (omega arith) (λ _. omega (arith, l .kind-is))
       (λ _. record { kind-is = sym (l .kind-is); jump = jump-by e k 1 kind-if-goto (omega arith) (omega arith) l })
       (λ z. absurd (omega arith))
       (λ z. absurd (omega arith))
 
-  pub effect-goto : r .stop ≡ stop-goto → Lined 2 0 0 kind-goto (getD e k 0) → HasEffect e k h r
+  effect-goto : r .stop ≡ stop-goto → Lined 2 0 0 kind-goto (getD e k 0) → HasEffect e k h r
   effect-goto s l =
       effect-halt (omega arith) (omega arith) (λ _. omega (arith, l .kind-is)) (λ z. absurd (omega arith)) (λ z. absurd (omega arith))
       (λ _. record { kind-is = sym (l .kind-is); jump = jump-by e k 0 kind-goto (omega arith) (omega arith) l })
 
-  pub effect-end : r .stop ≡ stop-end → Lined 0 0 0 kind-end (getD e k 0) → HasEffect e k h r
+  effect-end : r .stop ≡ stop-end → Lined 0 0 0 kind-end (getD e k 0) → HasEffect e k h r
   effect-end s l =
       effect-halt (omega arith) (omega arith) (λ _. omega (arith, l .kind-is)) (λ z. absurd (omega arith))
       (λ _. record { kind-is = sym (l .kind-is); next-is = omega (arith, l .operands-is) })
@@ -192,3 +192,112 @@ module _ (e : List ℕ) (k h : ℕ) {r : Effect} where
   pub effect-doubt : r .stop ≡ stop-doubt → HasEffect e k h r
   effect-doubt s =
       effect-halt (omega arith) (omega arith) (λ z. absurd (z s)) (λ z. absurd (omega arith)) (λ z. absurd (omega arith)) (λ z. absurd (omega arith))
+
+-- ---- the arms, each by its first opcode
+abbrev pub At : List ℕ → ℕ → List ℕ → Type 0
+At e k ks = OneOf ks (getD e k 0)
+
+pub is-ext : (op : ℕ) → OneOf (0x16 ∷ []) op → kind (classOf op) ≡ kind-ext
+unfolding classOf opcodes
+is-ext op p = sym (these 1 1 1 kind-ext _ 0x16 ([]) tt p .kind-is)
+
+pub is-getv-tracev : (op : ℕ) → OneOf (0x2c ∷ 0x2e ∷ []) op → kind (classOf op) ≡ kind-variable
+unfolding classOf opcodes
+is-getv-tracev op p = sym (these 2 0 1 kind-variable _ 0x2c (0x2e ∷ []) tt p .kind-is)
+
+pub is-setv : (op : ℕ) → OneOf (0x2d ∷ []) op → kind (classOf op) ≡ kind-variable
+unfolding classOf opcodes
+is-setv op p = sym (these 2 1 1 kind-variable _ 0x2d ([]) tt p .kind-is)
+
+pub is-pick : (op : ℕ) → OneOf (0x32 ∷ []) op → kind (classOf op) ≡ kind-pick
+unfolding classOf opcodes
+is-pick op p = sym (these 1 1 2 kind-pick _ 0x32 ([]) tt p .kind-is)
+
+module _ {e : List ℕ} {k h : ℕ} {r : Effect} where
+  pub arm-02 : ByRow stop-on k h 0 2 1 r → At e k (0x02 ∷ 0x04 ∷ 0x06 ∷ 0x08 ∷ 0x0a ∷ 0x0f ∷ 0x11 ∷ 0x13 ∷ 0x15 ∷ []) → HasEffect e k h r
+  unfolding classOf opcodes
+  arm-02 w p = effect-plain e k h 0 2 1 w (omega arith) (omega arith) (these 0 2 1 kind-plain _ 0x02 (0x04 ∷ 0x06 ∷ 0x08 ∷ 0x0a ∷ 0x0f ∷ 0x11 ∷ 0x13 ∷ 0x15 ∷ []) tt p)
+
+  pub arm-03 : ByRow stop-on k h 0 2 1 r → At e k (0x03 ∷ 0x05 ∷ 0x07 ∷ 0x09 ∷ 0x0b ∷ 0x10 ∷ 0x14 ∷ []) → HasEffect e k h r
+  unfolding classOf opcodes
+  arm-03 w p = effect-plain e k h 0 2 1 w (omega arith) (omega arith) (these 0 2 1 kind-plain _ 0x03 (0x05 ∷ 0x07 ∷ 0x09 ∷ 0x0b ∷ 0x10 ∷ 0x14 ∷ []) tt p)
+
+  pub arm-0c : ByRow stop-on k h 0 2 0 r → At e k (0x0c ∷ 0x2f ∷ []) → HasEffect e k h r
+  unfolding classOf opcodes
+  arm-0c w p = effect-plain e k h 0 2 0 w (omega arith) (omega arith) (these 0 2 0 kind-plain _ 0x0c (0x2f ∷ []) tt p)
+
+  pub arm-0e : ByRow stop-on k h 0 1 1 r → At e k (0x0e ∷ 0x12 ∷ 0x17 ∷ 0x19 ∷ []) → HasEffect e k h r
+  unfolding classOf opcodes
+  arm-0e w p = effect-plain e k h 0 1 1 w (omega arith) (omega arith) (these 0 1 1 kind-plain _ 0x0e (0x12 ∷ 0x17 ∷ 0x19 ∷ []) tt p)
+
+  pub arm-18 : ByRow stop-on k h 0 1 1 r → At e k (0x18 ∷ 0x1a ∷ []) → HasEffect e k h r
+  unfolding classOf opcodes
+  arm-18 w p = effect-plain e k h 0 1 1 w (omega arith) (omega arith) (these 0 1 1 kind-plain _ 0x18 (0x1a ∷ []) tt p)
+
+  pub arm-0d : ByRow stop-on k h 1 1 1 r → At e k (0x0d ∷ 0x2a ∷ []) → HasEffect e k h r
+  unfolding classOf opcodes
+  arm-0d w p = effect-plain e k h 1 1 1 w (omega arith) (omega arith) (these 1 1 1 kind-plain _ 0x0d (0x2a ∷ []) tt p)
+
+  pub arm-30 : ByRow stop-on k h 2 1 1 r → At e k (0x30 ∷ []) → HasEffect e k h r
+  unfolding classOf opcodes
+  arm-30 w p = effect-plain e k h 2 1 1 w (omega arith) (omega arith) (these 2 1 1 kind-plain _ 0x30 ([]) tt p)
+
+  pub arm-22 : ByRow stop-on k h 1 0 1 r → At e k (0x22 ∷ []) → HasEffect e k h r
+  unfolding classOf opcodes
+  arm-22 w p = effect-plain e k h 1 0 1 w (omega arith) (omega arith) (these 1 0 1 kind-plain _ 0x22 ([]) tt p)
+
+  pub arm-23 : ByRow stop-on k h 2 0 1 r → At e k (0x23 ∷ 0x26 ∷ []) → HasEffect e k h r
+  unfolding classOf opcodes
+  arm-23 w p = effect-plain e k h 2 0 1 w (omega arith) (omega arith) (these 2 0 1 kind-plain _ 0x23 (0x26 ∷ []) tt p)
+
+  pub arm-24 : ByRow stop-on k h 4 0 1 r → At e k (0x24 ∷ []) → HasEffect e k h r
+  unfolding classOf opcodes
+  arm-24 w p = effect-plain e k h 4 0 1 w (omega arith) (omega arith) (these 4 0 1 kind-plain _ 0x24 ([]) tt p)
+
+  pub arm-25 : ByRow stop-on k h 8 0 1 r → At e k (0x25 ∷ []) → HasEffect e k h r
+  unfolding classOf opcodes
+  arm-25 w p = effect-plain e k h 8 0 1 w (omega arith) (omega arith) (these 8 0 1 kind-plain _ 0x25 ([]) tt p)
+
+  pub arm-28 : ByRow stop-on k h 0 1 2 r → At e k (0x28 ∷ []) → HasEffect e k h r
+  unfolding classOf opcodes
+  arm-28 w p = effect-plain e k h 0 1 2 w (omega arith) (omega arith) (these 0 1 2 kind-plain _ 0x28 ([]) tt p)
+
+  pub arm-29 : ByRow stop-on k h 0 1 0 r → At e k (0x29 ∷ []) → HasEffect e k h r
+  unfolding classOf opcodes
+  arm-29 w p = effect-plain e k h 0 1 0 w (omega arith) (omega arith) (these 0 1 0 kind-plain _ 0x29 ([]) tt p)
+
+  pub arm-2b : ByRow stop-on k h 0 2 2 r → At e k (0x2b ∷ []) → HasEffect e k h r
+  unfolding classOf opcodes
+  arm-2b w p = effect-plain e k h 0 2 2 w (omega arith) (omega arith) (these 0 2 2 kind-plain _ 0x2b ([]) tt p)
+
+  pub arm-33 : ByRow stop-on k h 0 3 3 r → At e k (0x33 ∷ []) → HasEffect e k h r
+  unfolding classOf opcodes
+  arm-33 w p = effect-plain e k h 0 3 3 w (omega arith) (omega arith) (these 0 3 3 kind-plain _ 0x33 ([]) tt p)
+
+  pub arm-16 : ByRow stop-on k h 1 1 1 r × (r .stop ≢ stop-doubt → 1 ≤ operand e k) → At e k (0x16 ∷ []) → HasEffect e k h r
+  unfolding classOf opcodes
+  arm-16 w p = effect-ext e k h (w .0) (these 1 1 1 kind-ext _ 0x16 [] tt p) (w .1)
+
+  pub arm-2c : ByRow stop-on k h 2 0 1 r × (r .stop ≢ stop-doubt → operand e k ≤ 63) → At e k (0x2c ∷ 0x2e ∷ []) → HasEffect e k h r
+  unfolding classOf opcodes
+  arm-2c w p = effect-variable e k h stop-on 0 (w .0) (these 2 0 1 kind-variable _ 0x2c (0x2e ∷ []) tt p) (w .1) refl refl
+
+  pub arm-2d : ByRow stop-sets k h 2 1 1 r × (r .stop ≢ stop-doubt → operand e k ≤ 63) → At e k (0x2d ∷ []) → HasEffect e k h r
+  unfolding classOf opcodes
+  arm-2d w p = effect-setv e k h stop-sets 1 (w .0) (these 2 1 1 kind-variable _ 0x2d [] tt p) (w .1) refl
+
+  pub arm-32 : ByRow stop-on k h 1 (1 + picked e k) (2 + picked e k) r → At e k (0x32 ∷ []) → HasEffect e k h r
+  unfolding classOf opcodes
+  arm-32 w p = effect-pick e k h w (these 1 1 2 kind-pick _ 0x32 [] tt p)
+
+  pub arm-20 : r .stop ≡ stop-if-goto → At e k (0x20 ∷ []) → HasEffect e k h r
+  unfolding classOf opcodes
+  arm-20 s p = effect-if-goto e k h s (these 2 1 0 kind-if-goto _ 0x20 [] tt p)
+
+  pub arm-21 : r .stop ≡ stop-goto → At e k (0x21 ∷ []) → HasEffect e k h r
+  unfolding classOf opcodes
+  arm-21 s p = effect-goto e k h s (these 2 0 0 kind-goto _ 0x21 [] tt p)
+
+  pub arm-27 : r .stop ≡ stop-end → At e k (0x27 ∷ []) → HasEffect e k h r
+  unfolding classOf opcodes
+  arm-27 s p = effect-end e k h s (these 0 0 0 kind-end _ 0x27 [] tt p)
