@@ -1,17 +1,78 @@
-// The verifier of agent expressions: the entries.
+// The verifier of agent expressions: the entries. Most expressions are accepted in one pass; where that pass is in doubt,
+// the three passes answer.
 ghost use mathlib.Core.Path.{_≡_};
+ghost use mathlib.Core.Bool.{false};
+ghost use Prim.Native.Nat.{_≤_};
+ghost use lib.ListN.{length};
 ghost use Rattle.isa.specs.Rows.{table};
-ghost use Rattle.verdict.specs.Verdict.{verdict, verdictOf};
+ghost use Rattle.verdict.specs.Verdict.{verdict, verdictOf, SetsNothing};
+ghost use Rattle.acceptor.specs.StraightCode.{Following};
+use acceptor::Stop;
 use verdict::Answer;
+
+// An answer, and whether a setv may occur: where `sets` is false, no instruction of the expression is one.
+pub struct Noted {
+    pub answer: Answer,
+    pub sets: bool,
+}
 
 // The verifier.
 pub fn verify(e: &[u8]) -> Answer
     ensures { λ r. ⌜ verdictOf r ≡ verdict (now (e .entry)) ⌝ }
 {
-    verify_by(&isa::ROWS, e)
+    let noted = verify_noting(e);
+    noted.answer
 }
 
-// The same for a caller that already holds the rows.
+// The same, for a caller that keeps variables and wants to know whether they may change.
+pub fn verify_noting(e: &[u8]) -> Noted
+    ensures { λ r. ⌜ (verdictOf (r .answer) ≡ verdict (now (e .entry))) × (r .sets ≡ false → SetsNothing (now (e .entry))) ⌝ }
+{
+    if 1024 < e.len() {
+        return Noted {
+            answer: Answer::Refused(1, 0),
+            sets: true,
+        };
+    }
+    let stop = acceptor::accept_straight(e);
+    if stop.stop == acceptor::ACCEPTED {
+        return Noted {
+            answer: Answer::Accepted(stop.count, stop.greatest as u8, stop.count),
+            sets: stop.sets,
+        };
+    }
+    if stop.stop == acceptor::DOUBT {
+        return in_doubt(e);
+    }
+    verify_branching(e, stop)
+}
+
+// An expression that is no straight code, from its first jump on, or from an end that is not its last byte.
+fn verify_branching(e: &[u8], from: Stop) -> Noted
+    requires { ⌜ (length (now e) ≤ 1024) × Following (now e) (from .at) (from .height) (from .count) (from .greatest) (from .sets) ⌝ }
+    ensures { λ r. ⌜ (verdictOf (r .answer) ≡ verdict (now (e .entry))) × (r .sets ≡ false → SetsNothing (now (e .entry))) ⌝ }
+{
+    let state = acceptor::accept_branching(e, from);
+    if state.stop == acceptor::ACCEPTED {
+        return Noted {
+            answer: Answer::Accepted(state.count, state.greatest as u8, state.longest),
+            sets: state.sets,
+        };
+    }
+    in_doubt(e)
+}
+
+// The three passes answer. Two places call this function, so that their tables are in no caller's frame.
+fn in_doubt(e: &[u8]) -> Noted
+    ensures { λ r. ⌜ (verdictOf (r .answer) ≡ verdict (now (e .entry))) × (r .sets ≡ false → SetsNothing (now (e .entry))) ⌝ }
+{
+    Noted {
+        answer: passes::verify_by(&isa::ROWS, e),
+        sets: true,
+    }
+}
+
+// The verdict, for a caller that already holds the rows.
 pub fn verify_by(rows: &[[u8; 4]; 53], e: &[u8]) -> Answer
     requires { ⌜ now rows ≡ table ⌝ }
     ensures { λ r. ⌜ verdictOf r ≡ verdict (now (e .entry)) ⌝ }
