@@ -1,4 +1,5 @@
-// Document 01 by hand, for speed: one switch, a static table of rows, no heap. What the verifier promises is not checked again.
+// Document 01 by hand, for speed: one switch, a static table of rows, no heap. What the verifier promises is not tested
+// again.
 #include "agent.h"
 
 #include <stdbool.h>
@@ -267,7 +268,9 @@ static inline uint32_t bad_spans(const struct span spans[2])
 {
     if (ends_past(spans[0]) || ends_past(spans[1]))
         return 12;
-    return share_address(spans[0], spans[1]) ? 13 : 0;
+    if (share_address(spans[0], spans[1]))
+        return 13;
+    return 0;
 }
 
 uint32_t AGENT(fetch)(uint64_t image_first, const uint8_t *image, size_t image_length,
@@ -406,7 +409,9 @@ static inline uint32_t inputs(const struct span spans[2], size_t registers, size
         return number;
     if (registers > 256)
         return 14;
-    return buffer > 65536 || used > buffer ? 15 : 0;
+    if (buffer > 65536 || used > buffer)
+        return 15;
+    return 0;
 }
 
 // Leaves the loop with a refusal.

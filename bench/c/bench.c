@@ -1,5 +1,5 @@
-// The benchmark: `bench check` compares the answers of the library and of the C implementation, `bench count` is run under callgrind,
-// `bench table` measures times and prints all. The script ../run does the three.
+// The benchmark: `bench check` compares the answers of the library and of the C implementation, `bench count` is run
+// under callgrind, `bench table` measures times and prints all. The script ../run does the three.
 #include "bench.h"
 
 #include <stdio.h>
@@ -153,17 +153,17 @@ static void print_stack(void)
 static void print_hits(void)
 {
     uint64_t out[6];
-    double bytes = 0, instructions = 0, steps = 0, kinds[HIT_KINDS] = {0}, count = (double)hit_count;
+    double bytes = 0, instructions = 0, steps = 0, assigning = 0, count = (double)hit_count;
     for (size_t i = 0; i < hit_count; i++) {
         bytes += (double)hits[i].length;
-        kinds[hits[i].kind]++;
+        assigning += hits[i].kind == ASSIGN_HIT;
         agents[OURS].verify(hits[i].bytes, hits[i].length, out);
         instructions += (double)out[1];
         run(OURS, &hits[i], usual(hits[i].scene), out);
         steps += (double)out[1];
     }
-    printf("\nHits: %zu expressions of GDB's, %.1f instructions in %.1f bytes on average, of which a run executes %.1f; %.0f (%.0f %%) assign a trace variable\n",
-           hit_count, instructions / count, bytes / count, steps / count, kinds[ASSIGN_HIT], 100 * kinds[ASSIGN_HIT] / count);
+    printf("\nHits: %zu expressions of GDB's; on average %.1f bytes, %.1f instructions, %.1f steps; %.0f %% assign a trace variable\n",
+           hit_count, bytes / count, instructions / count, steps / count, 100 * assigning / count);
 }
 
 static void print_head(const struct table *t)
@@ -178,24 +178,33 @@ static void print_head(const struct table *t)
     printf("\n");
 }
 
-// `with` is 0 for machine instructions, 1 for nanoseconds.
-static double cost(const struct row *r, int agent, bool is_time)
+static double spent(const struct task *t, int agent, bool is_time)
 {
-    const struct task *none = &(struct task){0}, *base = r->base == NULL ? none : r->base;
-    return (is_time ? r->task->nanoseconds[agent] - base->nanoseconds[agent] : r->task->count[agent] - base->count[agent]) / (double)r->units;
+    if (t == NULL)
+        return 0;
+    return is_time ? t->nanoseconds[agent] : t->count[agent];
 }
 
-// The last column is in machine instructions, beside the compiler that needs fewer.
+static double cost(const struct row *r, int agent, bool is_time)
+{
+    return (spent(r->task, agent, is_time) - spent(r->base, agent, is_time)) / (double)r->units;
+}
+
+// In machine instructions, beside the compiler that needs fewer; above where a printed digit is.
+static void print_ratio(const struct row *r)
+{
+    double ours = cost(r, OURS, false), least = cost(r, 1, false);
+    for (int a = 2; a < agent_count; a++)
+        least = cost(r, a, false) < least ? cost(r, a, false) : least;
+    printf(" %.2f%s |\n", ours / least, ours >= least + 0.05 ? " **above**" : "");
+}
+
 static void print_row(const struct row *r)
 {
-    double least = cost(r, 1, false);
     printf("| %s | %zu |", r->name, r->units);
     for (int i = 0; i < 2 * agent_count; i++)
         printf(" %.1f |", cost(r, i % agent_count, i >= agent_count));
-    for (int a = 1; a < agent_count; a++)
-        least = cost(r, a, false) < least ? cost(r, a, false) : least;
-    double more = cost(r, OURS, false) / least;
-    printf(" %.2f%s |\n", more, more > 1.0 ? " **above**" : "");
+    print_ratio(r);
 }
 
 static void print_table(const struct table *t)

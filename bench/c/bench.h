@@ -1,4 +1,4 @@
-// What the parts of the benchmark share: the agents that are compared, the tasks that are measured, the rows that show them.
+// What the parts of the benchmark share: the agents that are compared, the tasks that are measured, the tables.
 #ifndef BENCH_H
 #define BENCH_H
 

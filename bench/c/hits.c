@@ -1,4 +1,4 @@
-// The stored hits: a line is a program, its registers, a span, bytes of that span, or an expression with what GDB compiled it to.
+// The stored hits: a line is a program, its registers, a span, bytes of that span, or an expression with its bytes.
 #include "workloads.h"
 
 #include <stdio.h>

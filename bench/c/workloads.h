@@ -29,7 +29,7 @@ struct expression {
 
 enum { CONDITION_HIT, ASSIGN_HIT, COLLECT_HIT, STRING_HIT, HIT_KINDS, MOST_HITS = 256 };
 
-// Reads the stored hits, in an order that mixes programs and kinds; the answer is how many. Ends the program where they cannot be read.
+// Reads the stored hits, in an order that mixes programs and kinds; the answer is how many. Exits where it cannot.
 size_t read_hits(const char *path, struct expression hits[MOST_HITS]);
 
 // ---- made up, with one scene for all of them

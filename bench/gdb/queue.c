@@ -1,4 +1,4 @@
-// What GDB compiles expressions over, optimized: arguments and locals in registers, a list, a ring, strings behind pointers.
+// What GDB compiles expressions over, optimized: locals in registers, a list, a ring, strings behind pointers.
 #include <stdint.h>
 
 enum state { WAITING, SERVED, FAILED };

@@ -1,4 +1,4 @@
-// Where the programs begin whose expressions GDB compiles (./compile): on a stack among the data, at an address that nothing moves.
+// Where a program begins over which GDB compiles (./compile): on a stack among the data, at an address of its own.
 static char stack[2048] __attribute__((aligned(16), used));
 
 __attribute__((naked, noreturn)) void _start(void)
