@@ -1,7 +1,7 @@
 /*
- * The libraries' functions on a stack of 8 KB, with a page behind it that nobody may touch: what the header says of their
- * stack. Calls that are accepted, that are refused at each stage, and that are in doubt: with code that no walk reaches.
- * The answers are document 01's.
+ * The libraries' functions on a stack of 8 KB, with a page behind it that nobody may touch: what the header says of
+ * their stack. Calls that are accepted, refused at each stage, or in doubt, with code that no walk reaches. The answers
+ * are document 01's.
  */
 #define _GNU_SOURCE
 #include <inttypes.h>

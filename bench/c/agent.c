@@ -619,38 +619,50 @@ static inline size_t record_size(const uint8_t *p, size_t left)
     return 0;
 }
 
+// The frame with that number, counted from the newest; `end` is left where the frame ends, or where none is.
+static inline uint32_t find_frame(const uint8_t *buffer, size_t *end, uint64_t frame, struct frame *f)
+{
+    for (;; *end = f->start) {
+        uint32_t number = frame_before(buffer, *end, f);
+        if (number != 0 || frame-- == 0)
+            return number;
+    }
+}
+
+// The offset of the record with that number; the frame's end where there is none, and *broken at a broken record.
+static inline size_t find_record(const uint8_t *buffer, const struct frame *f, uint64_t record, bool *broken)
+{
+    size_t stop = f->start + f->length, chosen = stop;
+    uint64_t passed = 0;
+    for (size_t at = f->start; at < stop; passed++) {
+        size_t size = record_size(buffer + at, stop - at);
+        if (size == 0) {
+            *broken = true;
+            return at;
+        }
+        if (passed == record)
+            chosen = at;
+        at += size;
+    }
+    return chosen;
+}
+
 uint32_t AGENT(read)(const uint8_t *buffer, size_t length, size_t used, uint64_t frame, uint64_t record, uint64_t out[6])
 {
     memset(out, 0, 6 * sizeof out[0]);
     if (length > 65536 || used > length)
         return 15;
     struct frame f;
-    size_t end = used;
-    for (uint64_t passed = 0;; passed++) {
-        uint32_t number = frame_before(buffer, end, &f);
-        if (number != 0) {
-            out[0] = end;
-            return number;
-        }
-        if (passed == frame)
-            break;
-        end = f.start;
+    uint32_t number = find_frame(buffer, &used, frame, &f);
+    if (number != 0) {
+        out[0] = used;
+        return number;
     }
-    size_t stop = f.start + f.length, chosen = stop;
-    uint64_t passed = 0;
-    for (size_t at = f.start; at < stop; passed++) {
-        size_t size = record_size(buffer + at, stop - at);
-        if (size == 0) {
-            out[0] = at;
-            return 23;
-        }
-        if (passed == record)
-            chosen = at;
-        at += size;
-    }
-    if (chosen == stop) {
-        out[0] = f.start;
-        return 25;
+    bool broken = false;
+    size_t chosen = find_record(buffer, &f, record, &broken);
+    if (broken || chosen == f.start + f.length) {
+        out[0] = broken ? chosen : f.start;
+        return broken ? 23 : 25;
     }
     const uint8_t *p = buffer + chosen;
     bool is_memory = p[0] == MEMORY_MARK;

@@ -1,5 +1,5 @@
-// A plain C implementation of document 01, for comparison: what a firmware engineer would write by hand. Nothing in it is
-// proved. The functions take and answer what those of the proved library do (include/).
+// A plain C implementation of document 01, for comparison: what a firmware engineer would write by hand. Nothing in it
+// is proved. The functions take and answer what those of the proved library do (include/).
 #ifndef AGENT_H
 #define AGENT_H
 
