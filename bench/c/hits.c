@@ -57,8 +57,8 @@ static void read_span(const char *text, struct memory *memory, struct reading *r
 
 static void read_part(const char *text, struct reading *r)
 {
-    size_t offset;
-    int hex;
+    size_t offset = 0;
+    int hex = 0;
     expect(r->memory != NULL && sscanf(text, "%zx %n", &offset, &hex) == 1 && offset < r->memory->length, r);
     read_bytes(text + hex, r->memory->bytes + offset, r->memory->length - offset, r);
 }
