@@ -1,8 +1,21 @@
-// Document 01 by hand, for speed: one switch, a static table of rows, no heap. What the verifier promises is not checked again.
+// Document 01 by hand, for speed: one switch, a static table of rows, no heap. What the verifier promises is not tested
+// again.
 #include "agent.h"
 
 #include <stdbool.h>
 #include <string.h>
+
+// The same source by two compilers: gcc_verify, clang_verify and so on.
+#ifdef __clang__
+#define AGENT(function) clang_##function
+#else
+#define AGENT(function) gcc_##function
+#endif
+verify_function AGENT(verify);
+run_function AGENT(run);
+fetch_function AGENT(fetch);
+read_function AGENT(read);
+walk_function AGENT(walk);
 
 enum { MOST_BYTES = 1024, DEPTH = 64, VARIABLES = 64, MOST_JUMPS = MOST_BYTES / 3 };
 enum { MEMORY_MARK = 0x4d, VARIABLE_MARK = 0x56, TRAILER_MARK = 0x46 };
@@ -85,6 +98,7 @@ enum { NO_START = 255, UNREACHED = 254, DIFFERING = 253 };
 struct tables {
     uint8_t heights[MOST_BYTES];
     uint16_t distances[MOST_BYTES]; // the longest way here by jumps, where the start is reached
+    uint16_t starts[MOST_BYTES];    // in rising order
     uint16_t jumps[MOST_JUMPS];
     size_t jump_count;
 };
@@ -112,7 +126,7 @@ static inline uint32_t special_fault(const uint8_t *e, size_t length, size_t at,
     return (row->kind == EXT ? e[at + 1] == 0 : big(e + at + 1, 2) >= VARIABLES) ? 5 : 0;
 }
 
-// Pass 1. Marks the starts and notes the jumps.
+// Pass 1. Marks and lists the starts, and notes the jumps.
 static inline struct verdict scan(const uint8_t *e, size_t length, struct tables *t)
 {
     struct verdict v = {0};
@@ -130,8 +144,8 @@ static inline struct verdict scan(const uint8_t *e, size_t length, struct tables
             t->jumps[t->jump_count++] = (uint16_t)at;
         }
         t->heights[at] = UNREACHED;
+        t->starts[v.count++] = (uint16_t)at;
         at += 1 + row->operands;
-        v.count++;
     }
     return v;
 }
@@ -164,15 +178,14 @@ static inline void arrive(struct tables *t, size_t to, unsigned height, unsigned
 }
 
 // Pass 3. Height and distance go along in registers; the tables hold what arrives by jumps.
-static inline struct verdict measure(const uint8_t *e, size_t length, struct tables *t, size_t count)
+static inline struct verdict measure(const uint8_t *e, struct tables *t, size_t count)
 {
     struct verdict v = {.count = count};
     unsigned height = 0, distance = 0;
     bool flows = true; // whether the start before leads here
-    size_t at = 0, next;
-    for (; at < length; at = next) {
+    for (size_t i = 0; i < count; i++) {
+        size_t at = t->starts[i];
         const struct row *row = &rows[e[at]];
-        next = at + 1 + row->operands;
         if (t->heights[at] != UNREACHED) {
             if (t->heights[at] == DIFFERING || (flows && t->heights[at] != height))
                 return refused(8, at);
@@ -198,7 +211,7 @@ static inline struct verdict measure(const uint8_t *e, size_t length, struct tab
             continue;
         }
         flows = row->kind != GOTO;
-        if (flows && next == length)
+        if (flows && i + 1 == count)
             return refused(11, at);
         if (row->kind >= GOTO)
             arrive(t, big(e + at + 1, 2), height, distance);
@@ -218,10 +231,10 @@ static struct verdict verify(const uint8_t *e, size_t length)
     struct verdict aimed = aim(e, length, &t);
     if (aimed.number != 0)
         return aimed;
-    return measure(e, length, &t, v.count);
+    return measure(e, &t, v.count);
 }
 
-uint32_t agent_verify(const uint8_t *expression, size_t length, uint64_t out[4])
+uint32_t AGENT(verify)(const uint8_t *expression, size_t length, uint64_t out[4])
 {
     struct verdict v = verify(expression, length);
     out[0] = v.offset;
@@ -249,6 +262,35 @@ static inline bool share_address(struct span a, struct span b)
     if (a.length == 0 || b.length == 0)
         return false;
     return a.first <= b.first ? b.first - a.first < a.length : a.first - b.first < b.length;
+}
+
+static inline uint32_t bad_spans(const struct span spans[2])
+{
+    if (ends_past(spans[0]) || ends_past(spans[1]))
+        return 12;
+    if (share_address(spans[0], spans[1]))
+        return 13;
+    return 0;
+}
+
+uint32_t AGENT(fetch)(uint64_t image_first, const uint8_t *image, size_t image_length,
+                      uint64_t work_first, const uint8_t *work, size_t work_length,
+                      uint64_t address, uint64_t size, uint64_t out[2])
+{
+    const struct span spans[2] = {{image_first, image, image_length}, {work_first, work, work_length}};
+    out[0] = out[1] = 0;
+    uint32_t number = bad_spans(spans);
+    if (number != 0 || size == 0)
+        return number;
+    for (int i = 0; i < 2; i++) {
+        uint64_t at = address - spans[i].first;
+        if (address >= spans[i].first && size <= spans[i].length && at <= spans[i].length - size) {
+            out[0] = (uint64_t)i + 1;
+            out[1] = at;
+            return 0;
+        }
+    }
+    return 19;
 }
 
 // The bytes from `address` to the end of the span that holds it, and how many; 0 where none does.
@@ -362,10 +404,9 @@ static inline uint64_t zero_extend(uint64_t a, unsigned n)
 
 static inline uint32_t inputs(const struct span spans[2], size_t registers, size_t buffer, size_t used)
 {
-    if (ends_past(spans[0]) || ends_past(spans[1]))
-        return 12;
-    if (share_address(spans[0], spans[1]))
-        return 13;
+    uint32_t number = bad_spans(spans);
+    if (number != 0)
+        return number;
     if (registers > 256)
         return 14;
     if (buffer > 65536 || used > buffer)
@@ -406,11 +447,11 @@ static inline uint32_t inputs(const struct span spans[2], size_t registers, size
         pc += 1; \
     } while (0)
 
-uint32_t agent_run(const uint8_t *expression, size_t length, const uint64_t *registers, size_t register_count,
-                   uint64_t image_first, const uint8_t *image, size_t image_length,
-                   uint64_t work_first, const uint8_t *work, size_t work_length,
-                   uint64_t variables[64], uint8_t *buffer, size_t buffer_length, size_t used,
-                   uint16_t tracepoint, uint64_t allowance, uint64_t out[6])
+uint32_t AGENT(run)(const uint8_t *expression, size_t length, const uint64_t *registers, size_t register_count,
+                    uint64_t image_first, const uint8_t *image, size_t image_length,
+                    uint64_t work_first, const uint8_t *work, size_t work_length,
+                    uint64_t variables[64], uint8_t *buffer, size_t buffer_length, size_t used,
+                    uint16_t tracepoint, uint64_t allowance, uint64_t out[6])
 {
     memset(out, 0, 6 * sizeof out[0]);
     out[2] = used;
@@ -547,7 +588,7 @@ static inline uint32_t frame_before(const uint8_t *buffer, size_t end, struct fr
     return 0;
 }
 
-uint32_t agent_walk(const uint8_t *buffer, size_t length, size_t end, uint64_t out[5])
+uint32_t AGENT(walk)(const uint8_t *buffer, size_t length, size_t end, uint64_t out[5])
 {
     memset(out, 0, 5 * sizeof out[0]);
     out[4] = end;
@@ -578,39 +619,50 @@ static inline size_t record_size(const uint8_t *p, size_t left)
     return 0;
 }
 
-uint32_t agent_read(const uint8_t *buffer, size_t length, size_t used, uint64_t frame, uint64_t record,
-                    uint64_t out[6])
+// The frame with that number, counted from the newest; `end` is left where the frame ends, or where none is.
+static inline uint32_t find_frame(const uint8_t *buffer, size_t *end, uint64_t frame, struct frame *f)
 {
-    memset(out, 0, 6 * sizeof out[0]);
-    if (length > 65536 || used > length)
-        return 15;
-    struct frame f;
-    size_t end = used;
-    for (uint64_t passed = 0;; passed++) {
-        uint32_t number = frame_before(buffer, end, &f);
-        if (number != 0) {
-            out[0] = end;
+    for (;; *end = f->start) {
+        uint32_t number = frame_before(buffer, *end, f);
+        if (number != 0 || frame-- == 0)
             return number;
-        }
-        if (passed == frame)
-            break;
-        end = f.start;
     }
-    size_t stop = f.start + f.length, chosen = stop;
+}
+
+// The offset of the record with that number; the frame's end where there is none, and *broken at a broken record.
+static inline size_t find_record(const uint8_t *buffer, const struct frame *f, uint64_t record, bool *broken)
+{
+    size_t stop = f->start + f->length, chosen = stop;
     uint64_t passed = 0;
-    for (size_t at = f.start; at < stop; passed++) {
+    for (size_t at = f->start; at < stop; passed++) {
         size_t size = record_size(buffer + at, stop - at);
         if (size == 0) {
-            out[0] = at;
-            return 23;
+            *broken = true;
+            return at;
         }
         if (passed == record)
             chosen = at;
         at += size;
     }
-    if (chosen == stop) {
-        out[0] = f.start;
-        return 25;
+    return chosen;
+}
+
+uint32_t AGENT(read)(const uint8_t *buffer, size_t length, size_t used, uint64_t frame, uint64_t record, uint64_t out[6])
+{
+    memset(out, 0, 6 * sizeof out[0]);
+    if (length > 65536 || used > length)
+        return 15;
+    struct frame f;
+    uint32_t number = find_frame(buffer, &used, frame, &f);
+    if (number != 0) {
+        out[0] = used;
+        return number;
+    }
+    bool broken = false;
+    size_t chosen = find_record(buffer, &f, record, &broken);
+    if (broken || chosen == f.start + f.length) {
+        out[0] = broken ? chosen : f.start;
+        return broken ? 23 : 25;
     }
     const uint8_t *p = buffer + chosen;
     bool is_memory = p[0] == MEMORY_MARK;

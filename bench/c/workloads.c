@@ -1,7 +1,5 @@
 #include "workloads.h"
 
-#include "agent.h"
-
 #include <stdbool.h>
 #include <stdlib.h>
 #include <string.h>
@@ -10,51 +8,56 @@
 
 enum { WORK = 0x1000, FRAME = 0x1400, SLICES = 0x1500, CHAIN = 0x2000, TEXT = 0x4000, TEXT_STEP = 48, TEXTS = 64 };
 
-static void poke(struct scene *s, uint64_t address, uint64_t value, int size)
+struct scene scene = {.image = {.first = 0x404000, .length = 4096}, .work = {.first = WORK, .length = 16384}};
+
+static uint8_t *put_little(uint8_t *p, uint64_t number, int count)
 {
-    uint8_t *p = address >= s->image_first ? s->image + (address - s->image_first) : s->work + (address - WORK);
-    for (int i = 0; i < size; i++)
-        p[i] = (uint8_t)(value >> 8 * i);
+    for (int i = 0; i < count; i++)
+        *p++ = (uint8_t)(number >> 8 * i);
+    return p;
+}
+
+static void poke(uint64_t address, uint64_t value, int size)
+{
+    struct memory *m = address >= scene.image.first ? &scene.image : &scene.work;
+    put_little(m->bytes + (address - m->first), value, size);
 }
 
 // struct slice of ../gdb/scan.c
-static void poke_slice(struct scene *s, uint64_t at, uint64_t next)
+static void poke_slice(uint64_t at, uint64_t next)
 {
-    poke(s, at, 512, 4);           // width
-    poke(s, at + 4, 512, 4);       // height
-    poke(s, at + 8, 16, 2);        // depth
-    poke(s, at + 10, 5, 1);        // flags
-    poke(s, at + 12, 7, 4);        // origin.x
-    poke(s, at + 24, 5000, 8);     // stamp
-    poke(s, at + 32, next, 8);     // next
-    poke(s, at + 40, TEXT, 8);     // name
+    poke(at, 512, 4);           // width
+    poke(at + 4, 512, 4);       // height
+    poke(at + 8, 16, 2);        // depth
+    poke(at + 10, 5, 1);        // flags
+    poke(at + 12, 7, 4);        // origin.x
+    poke(at + 24, 5000, 8);     // stamp
+    poke(at + 32, next, 8);     // next
+    poke(at + 40, TEXT, 8);     // name
     for (int i = 0; i < 8; i++)
-        poke(s, at + 56 + 4 * (unsigned)i, 9, 4); // counts
+        poke(at + 56 + 4 * (unsigned)i, 9, 4); // counts
 }
 
-void make_scene(struct scene *s)
+void make_scene(void)
 {
     static const char text[] = "half of the rows of a rebuilt slice, and a few m";
-    memset(s, 0, sizeof *s);
-    s->image_first = 0x404000;
-    s->work_first = WORK;
     for (int i = 0; i < 16; i++)
-        s->registers[i] = 0x0101010101010101u * (unsigned)i;
+        scene.registers[i] = 0x0101010101010101u * (unsigned)i;
     for (int i = 0; i < 64; i++)
-        s->variables[i] = (uint64_t)i * i;
-    s->registers[6] = FRAME; // rbp
-    poke(s, 0x404010, 7, 4); // threshold
-    poke(s, FRAME - 8, SLICES + 16, 8); // p
-    poke(s, FRAME - 24, SLICES, 8);     // s
-    poke(s, FRAME - 28, 2, 4);          // row
-    poke(s, FRAME - 40, 100, 8);        // budget
+        scene.variables[i] = (uint64_t)i * i;
+    scene.registers[6] = FRAME; // rbp
+    poke(0x404010, 7, 4); // threshold
+    poke(FRAME - 8, SLICES + 16, 8); // p
+    poke(FRAME - 24, SLICES, 8);     // s
+    poke(FRAME - 28, 2, 4);          // row
+    poke(FRAME - 40, 100, 8);        // budget
     for (uint64_t i = 0; i < 4; i++)
-        poke_slice(s, SLICES + 16 + 88 * i, SLICES + 16 + 88 * ((i + 1) % 4));
+        poke_slice(SLICES + 16 + 88 * i, SLICES + 16 + 88 * ((i + 1) % 4));
     for (uint64_t i = 0; i < 1023; i++)
-        poke(s, CHAIN + 8 * i, CHAIN + 8 * (i + 1), 8);
+        poke(CHAIN + 8 * i, CHAIN + 8 * (i + 1), 8);
     for (uint64_t i = 0; i < TEXTS; i++) {
         size_t size = 4 + i * 7 % 37;
-        memcpy(s->work + (TEXT - WORK) + i * TEXT_STEP, text, size);
+        memcpy(scene.work.bytes + (TEXT - WORK) + i * TEXT_STEP, text, size);
     }
 }
 
@@ -82,6 +85,7 @@ static size_t room(const struct expression *e)
 static void start(struct expression *e, const char *name)
 {
     e->name = name;
+    e->scene = &scene;
     e->length = 0;
 }
 
@@ -273,45 +277,43 @@ void make_random(struct expression *e, uint64_t *seed)
     }
 }
 
-// ---- frames
+// ---- frames, written by hand: more records than an expression of 1,024 bytes can make
+
+// A record of 8 bytes of the chain.
+static uint8_t *put_memory(uint8_t *p, uint64_t address)
+{
+    p = put_little(p, 0x4d, 1);
+    p = put_little(p, address, 8);
+    p = put_little(p, 8, 2);
+    return put_little(p, address + 8, 8);
+}
+
+static uint8_t *put_trailer(uint8_t *p, const uint8_t *frame, uint64_t tracepoint)
+{
+    uint64_t length = (uint64_t)(p - frame);
+    p = put_little(p, 0x46, 2);
+    p = put_little(p, tracepoint, 2);
+    return put_little(p, length, 4);
+}
 
 size_t make_frames(uint8_t *buffer, size_t frames)
 {
-    struct scene s;
-    struct expression e;
-    uint64_t out[6];
-    make_scene(&s);
-    start(&e, "frame");
-    put(&e, "2320000d082e000327");
-    size_t used = 0;
+    uint8_t *p = buffer;
     for (size_t i = 0; i < frames; i++) {
-        agent_run(e.bytes, e.length, s.registers, 16, s.image_first, s.image, sizeof s.image, s.work_first, s.work,
-                  sizeof s.work, s.variables, buffer, 65536, used, (uint16_t)i, 1024, out);
-        used = out[2];
+        const uint8_t *frame = p;
+        p = put_memory(p, CHAIN);
+        p = put_little(p, 0x56, 1);
+        p = put_little(p, 3, 4);
+        p = put_little(p, scene.variables[3], 8);
+        p = put_trailer(p, frame, i);
     }
-    return used;
+    return (size_t)(p - buffer);
 }
 
-static uint8_t *put_little(uint8_t *p, uint64_t number, int count)
-{
-    for (int i = 0; i < count; i++)
-        *p++ = (uint8_t)(number >> 8 * i);
-    return p;
-}
-
-// Written by hand: 512 records are more than an expression of 1,024 bytes can make.
 size_t make_frame(uint8_t *buffer, size_t records)
 {
     uint8_t *p = buffer;
-    for (size_t i = 0; i < records; i++) {
-        p = put_little(p, 0x4d, 1);
-        p = put_little(p, CHAIN + 8 * i, 8);
-        p = put_little(p, 8, 2);
-        p = put_little(p, CHAIN + 8 * (i + 1), 8);
-    }
-    size_t length = (size_t)(p - buffer);
-    p = put_little(p, 0x46, 2);
-    p = put_little(p, 7, 2);
-    p = put_little(p, length, 4);
-    return (size_t)(p - buffer);
+    for (size_t i = 0; i < records; i++)
+        p = put_memory(p, CHAIN + 8 * i);
+    return (size_t)(put_trailer(p, buffer, 7) - buffer);
 }

@@ -1,24 +1,41 @@
-// What the benchmark runs: expressions, and one scene of registers, memory and variables for all of them.
+// What the benchmark runs: expressions, and the registers, memory and variables that they are run with.
 #ifndef WORKLOADS_H
 #define WORKLOADS_H
 
 #include <stddef.h>
 #include <stdint.h>
 
-struct expression {
-    const char *name;
+struct memory {
+    uint64_t first;
     size_t length;
-    uint8_t bytes[1024];
+    uint8_t bytes[16384];
 };
 
 struct scene {
     uint64_t registers[257]; // of which 16 are lent; all for a refusal
-    uint64_t image_first, work_first;
-    uint8_t image[4096], work[16384];
+    struct memory image, work;
     uint64_t variables[64];
 };
 
-void make_scene(struct scene *s);
+struct expression {
+    const char *name;
+    const struct scene *scene;
+    int kind; // of a hit
+    size_t length;
+    uint8_t bytes[1024];
+};
+
+// ---- hits: what GDB compiled over programs at a breakpoint (../gdb/hits.txt)
+
+enum { CONDITION_HIT, ASSIGN_HIT, COLLECT_HIT, STRING_HIT, HIT_KINDS, MOST_HITS = 256 };
+
+// Reads the stored hits, in an order that mixes programs and kinds; the answer is how many. Exits where it cannot.
+size_t read_hits(const char *path, struct expression hits[MOST_HITS]);
+
+// ---- made up, with one scene for all of them
+
+extern struct scene scene;
+void make_scene(void);
 
 enum { ARITHMETIC, DIVISION, LONG_DIVISION, JUMPS, REF64, TRACE_QUICK, TRACENZ, CONDITION, COLLECTION, RUN_COUNT };
 void make_run(struct expression *e, int which);

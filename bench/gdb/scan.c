@@ -14,5 +14,6 @@ int rebuild(struct scan *s, int row, long budget)
 }
 int main(void) { struct scan s = {0}; current = &s; return rebuild(&s, 3, 4); }
 
-// GDB compiled the expressions of ../c/workloads.c over this program, built with `gcc -g -O0 -no-pie`: `maint agent-eval -at scan.c:11, ..`
-// for a condition, `maint agent -at scan.c:11, ..` for a collection. Lines are counted from the top: keep this note below.
+// GDB compiled the expressions of ../c/workloads.c over this program, built with `gcc -g -O0 -no-pie`:
+// `maint agent-eval -at scan.c:11, ..` for a condition, `maint agent -at scan.c:11, ..` for a collection. Lines are
+// counted from the top: keep this note below.
