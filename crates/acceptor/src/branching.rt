@@ -290,10 +290,10 @@ fn effect_at(e: &[u8], at: usize, height: usize) -> Effect
         0x2c | 0x2e => effects::variable(e, at, height, crate::ON, 0),
         0x2d => effects::variable(e, at, height, crate::SETS, 1),
         0x32 => effects::pick(e, at, height),
-        0x20 => effects::halt(crate::IF_GOTO, at, height),
-        0x21 => effects::halt(crate::GOTO, at, height),
-        0x27 => effects::halt(crate::END, at, height),
-        _ => effects::halt(crate::DOUBT, at, height),
+        0x20 => effects::halt(crate::IF_GOTO),
+        0x21 => effects::halt(crate::GOTO),
+        0x27 => effects::halt(crate::END),
+        _ => effects::halt(crate::DOUBT),
     }
 }
 

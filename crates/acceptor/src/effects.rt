@@ -9,11 +9,16 @@ ghost use Rattle.isa.specs.Decode.{kindAt, operand, picked};
 ghost use Rattle.acceptor.specs.StraightCode.{«stop-on», «stop-doubt», ByRow};
 use crate::Effect;
 
-// An instruction behind which the pass does not go on by itself: a jump, an end, or doubt.
-pub(crate) fn halt(stop: u8, at: usize, height: usize) -> Effect
+// An instruction behind which the pass does not go on by itself: a jump, an end, or doubt. Its offset and height are of no
+// use, and are no sums of others: the compiler would compute them where the instruction goes on.
+pub(crate) fn halt(stop: u8) -> Effect
     ensures { λ r. ⌜ r .stop ≡ stop ⌝ }
 {
-    Effect { stop, at, height }
+    Effect {
+        stop,
+        at: 0,
+        height: 0,
+    }
 }
 
 // An instruction of that row, which has no rule of its own. It goes on as `stop` says.
@@ -29,7 +34,7 @@ pub(crate) fn by_row(
     ensures { λ r. ⌜ ByRow stop at height operands needed left r ⌝ }
 {
     if height < needed {
-        return halt(crate::DOUBT, at, height);
+        return halt(crate::DOUBT);
     }
     Effect {
         stop,
@@ -44,10 +49,10 @@ pub(crate) fn ext(e: &[u8], at: usize, height: usize) -> Effect
     ensures { λ r. ⌜ ByRow stop-on at height 1 1 1 r × (r .stop ≢ stop-doubt → 1 ≤ operand (now (e .entry)) at) ⌝ }
 {
     if e.len() - at < 2 {
-        return halt(crate::DOUBT, at, height);
+        return halt(crate::DOUBT);
     }
     if isa::operand_at(e, at, 1) == 0 {
-        return halt(crate::DOUBT, at, height);
+        return halt(crate::DOUBT);
     }
     by_row(at, height, crate::ON, 1, 1, 1)
 }
@@ -58,10 +63,10 @@ pub(crate) fn variable(e: &[u8], at: usize, height: usize, stop: u8, needed: usi
     ensures { λ r. ⌜ ByRow stop at height 2 needed 1 r × (r .stop ≢ stop-doubt → operand (now (e .entry)) at ≤ 63) ⌝ }
 {
     if e.len() - at < 3 {
-        return halt(crate::DOUBT, at, height);
+        return halt(crate::DOUBT);
     }
     if 63 < isa::operand_at(e, at, 2) {
-        return halt(crate::DOUBT, at, height);
+        return halt(crate::DOUBT);
     }
     by_row(at, height, stop, 2, needed, 1)
 }
@@ -72,7 +77,7 @@ pub(crate) fn pick(e: &[u8], at: usize, height: usize) -> Effect
     ensures { λ r. ⌜ ByRow stop-on at height 1 (1 + picked (now (e .entry)) at) (2 + picked (now (e .entry)) at) r ⌝ }
 {
     if e.len() - at < 2 {
-        return halt(crate::DOUBT, at, height);
+        return halt(crate::DOUBT);
     }
     let n = isa::operand_at(e, at, 1) as usize;
     by_row(at, height, crate::ON, 1, 1 + n, 2 + n)
