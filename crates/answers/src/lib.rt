@@ -3,4 +3,4 @@
 pub mod bytes;
 pub mod listed;
 pub mod outcome;
-pub mod verdict;
+pub mod verdict_line;

@@ -1,4 +1,4 @@
--- `answers::verdict::append_refused` meets its contract. Assumes nothing.
+-- `answers::verdict_line::append_refused` meets its contract. Assumes nothing.
 use borrow.Author.Needs.{needs}
 use denote.Ref.{now}
 use Rattle.report.proofs.Promises.{one, more}
@@ -6,8 +6,8 @@ use Rattle.report.specs.Text.{bytesOf}
 use Rattle.report.specs.Refusals.{refusalOf}
 use Rattle.phrases.specs.Refused.{refusedAt}
 use Rattle.answers.specs.Verdict.{instructionOf, refusedLine}
-use Rattle.answers.proofs.verdict.append_refused.Statement.{statement}
-use Rattle.answers.proofs.verdict.append_refused.Tie as tie
+use Rattle.answers.proofs.verdict_line.append_refused.Statement.{statement}
+use Rattle.answers.proofs.verdict_line.append_refused.Tie as tie
 
 append-refused-at-requires : tie.Need-append-refused-at-requires
 append-refused-at-requires c κs = search needs

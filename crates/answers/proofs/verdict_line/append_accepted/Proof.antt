@@ -1,4 +1,4 @@
--- `answers::verdict::append_accepted` meets its contract. Assumes nothing.
+-- `answers::verdict_line::append_accepted` meets its contract. Assumes nothing.
 use borrow.Author.Needs.{needs}
 use mathlib.Core.Path.{_∙_}
 use Rattle.report.proofs.Promises.{one, more}
@@ -7,8 +7,8 @@ use Rattle.listing.specs.Numbers.{decimal}
 use Rattle.listing.proofs.Promises.{appends-number}
 use Rattle.phrases.specs.Numbers.{countText}
 use Rattle.answers.specs.Verdict.{acceptedText}
-use Rattle.answers.proofs.verdict.append_accepted.Statement.{statement}
-use Rattle.answers.proofs.verdict.append_accepted.Tie as tie
+use Rattle.answers.proofs.verdict_line.append_accepted.Statement.{statement}
+use Rattle.answers.proofs.verdict_line.append_accepted.Tie as tie
 
 slice-aggregate-append : tie.Need-slice-aggregate-append
 slice-aggregate-append c = search needs

@@ -1,4 +1,4 @@
--- `answers::verdict::append_opcode` meets its contract. Assumes nothing.
+-- `answers::verdict_line::append_opcode` meets its contract. Assumes nothing.
 use borrow.Author.Needs.{needs}
 use mathlib.Core.Path.{sym, _∙_}
 use Rattle.report.proofs.Promises.{appends-same, one, more}
@@ -6,8 +6,8 @@ use Rattle.report.specs.Text.{bytesOf}
 use Rattle.report.specs.Hex.{pairOf}
 use Rattle.answers.specs.Verdict.{knownName}
 use Rattle.answers.proofs.Answering.{opcode-unknown, opcode-known}
-use Rattle.answers.proofs.verdict.append_opcode.Statement.{statement}
-use Rattle.answers.proofs.verdict.append_opcode.Tie as tie
+use Rattle.answers.proofs.verdict_line.append_opcode.Statement.{statement}
+use Rattle.answers.proofs.verdict_line.append_opcode.Tie as tie
 
 look-up-requires : tie.Need-look-up-requires
 look-up-requires c κs = search needs

@@ -1,4 +1,4 @@
--- `answers::verdict::append_there` meets its contract. Assumes nothing.
+-- `answers::verdict_line::append_there` meets its contract. Assumes nothing.
 use borrow.Author.Needs.{needs}
 use borrow.Author.Tests.{not-true, not-false}
 use denote.Ref.{now}
@@ -7,8 +7,8 @@ use Rattle.report.proofs.Promises.{appends-same, one, more}
 use Rattle.report.specs.Text.{bytesOf}
 use Rattle.listing.specs.Text.{plainAt}
 use Rattle.answers.proofs.Answering.{there-none, there-opcode, there-instruction}
-use Rattle.answers.proofs.verdict.append_there.Statement.{statement}
-use Rattle.answers.proofs.verdict.append_there.Tie as tie
+use Rattle.answers.proofs.verdict_line.append_there.Statement.{statement}
+use Rattle.answers.proofs.verdict_line.append_there.Tie as tie
 
 slice-aggregate-append : tie.Need-slice-aggregate-append
 slice-aggregate-append c = search needs

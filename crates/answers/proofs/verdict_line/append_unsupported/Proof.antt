@@ -1,10 +1,10 @@
--- `answers::verdict::append_unsupported` meets its contract. Assumes nothing.
+-- `answers::verdict_line::append_unsupported` meets its contract. Assumes nothing.
 use borrow.Author.Needs.{needs}
 use Rattle.report.proofs.Promises.{appends-same}
 use Rattle.answers.specs.Verdict.{unsupportedName}
 use Rattle.answers.proofs.Answering.{name-by, name-other}
-use Rattle.answers.proofs.verdict.append_unsupported.Statement.{statement}
-use Rattle.answers.proofs.verdict.append_unsupported.Tie as tie
+use Rattle.answers.proofs.verdict_line.append_unsupported.Statement.{statement}
+use Rattle.answers.proofs.verdict_line.append_unsupported.Tie as tie
 
 slice-aggregate-append : tie.Need-slice-aggregate-append
 slice-aggregate-append c = search needs

@@ -1,10 +1,10 @@
--- `answers::verdict::append_instruction` meets its contract. Assumes nothing.
+-- `answers::verdict_line::append_instruction` meets its contract. Assumes nothing.
 use borrow.Author.Needs.{needs}
 use denote.Ref.{now}
 use Rattle.report.proofs.Promises.{appends-same}
 use Rattle.answers.proofs.Answering.{of-none, of-some}
-use Rattle.answers.proofs.verdict.append_instruction.Statement.{statement}
-use Rattle.answers.proofs.verdict.append_instruction.Tie as tie
+use Rattle.answers.proofs.verdict_line.append_instruction.Statement.{statement}
+use Rattle.answers.proofs.verdict_line.append_instruction.Tie as tie
 
 slice-aggregate-append : tie.Need-slice-aggregate-append
 slice-aggregate-append c = search needs

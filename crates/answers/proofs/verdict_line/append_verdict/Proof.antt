@@ -1,12 +1,12 @@
--- `answers::verdict::append_verdict` meets its contract. Assumes nothing.
+-- `answers::verdict_line::append_verdict` meets its contract. Assumes nothing.
 use borrow.Author.Needs.{needs}
 use denote.Ref.{now}
 use mathlib.Core.Path.{sym, ap}
 use Rattle.report.proofs.Promises.{appends-same}
 use Rattle.verdict.specs.Verdict.{verdictOf}
 use Rattle.answers.specs.Verdict.{verdictText}
-use Rattle.answers.proofs.verdict.append_verdict.Statement.{statement}
-use Rattle.answers.proofs.verdict.append_verdict.Tie as tie
+use Rattle.answers.proofs.verdict_line.append_verdict.Statement.{statement}
+use Rattle.answers.proofs.verdict_line.append_verdict.Tie as tie
 
 enum-known-answer : tie.Need-enum-known-answer
 enum-known-answer c = search needs

@@ -1,12 +1,12 @@
--- `answers::verdict::append_height` meets its contract. Assumes nothing.
+-- `answers::verdict_line::append_height` meets its contract. Assumes nothing.
 use borrow.Author.Needs.{needs}
 use Rattle.report.proofs.Promises.{appends-same, one, more}
 use Rattle.report.specs.Text.{bytesOf}
 use Rattle.listing.specs.Numbers.{decimal}
 use Rattle.listing.proofs.Promises.{appends-number}
 use Rattle.answers.proofs.Answering.{height-none, height-some}
-use Rattle.answers.proofs.verdict.append_height.Statement.{statement}
-use Rattle.answers.proofs.verdict.append_height.Tie as tie
+use Rattle.answers.proofs.verdict_line.append_height.Statement.{statement}
+use Rattle.answers.proofs.verdict_line.append_height.Tie as tie
 
 slice-aggregate-append : tie.Need-slice-aggregate-append
 slice-aggregate-append c = search needs

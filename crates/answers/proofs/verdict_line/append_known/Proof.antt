@@ -1,10 +1,10 @@
--- `answers::verdict::append_known` meets its contract. Assumes nothing.
+-- `answers::verdict_line::append_known` meets its contract. Assumes nothing.
 use borrow.Author.Needs.{needs}
 use mathlib.Core.Path.{sym, _∙_}
 use Rattle.report.proofs.Promises.{appends-same}
 use Rattle.answers.proofs.Answering.{known-unsupported, known-supported}
-use Rattle.answers.proofs.verdict.append_known.Statement.{statement}
-use Rattle.answers.proofs.verdict.append_known.Tie as tie
+use Rattle.answers.proofs.verdict_line.append_known.Statement.{statement}
+use Rattle.answers.proofs.verdict_line.append_known.Tie as tie
 
 append-unsupported-requires : tie.Need-append-unsupported-requires
 append-unsupported-requires c κs = search needs
