@@ -213,7 +213,9 @@ branching-start {e} {k} {hs = hs} {ds = ds} short s u = record {
 
 -- what jumps have brought meets what flows in
 pub joining : {e : List ℕ} {s : State} {hs ds : List ℕ} {r : Join} → Branching e s hs ds → JoinsOr (getD hs (s .at) 0) (getD ds (s .at) 0) (s .height) (s .distance) (s .met) r → r .stop ≡ stop-on
-    → Joined e (record { stop = stop-on; at = s .at; height = s .height; distance = r .distance; count = s .count; greatest = s .greatest; longest = s .longest; noted = s .noted; met = r .met; sets = s .sets }) hs ds
+    → Joined e
+    (record { stop = stop-on; at = s .at; height = s .height; distance = r .distance; count = s .count; greatest = s .greatest; longest = s .longest; noted = s .noted; met = r .met; sets = s .sets })
+    hs ds
 joining {e} {s} {hs} {ds} {r} a w zero-stop =
     let k : ℕ = s .at in
     let st = a .stands in
@@ -269,6 +271,11 @@ not-concluded p = record { low = λ z. absurd (p z); accepts = λ z. absurd (p z
 pub turns-doubt : {e : List ℕ} {k : ℕ} {r : State} {hs ds : List ℕ} → r .stop ≡ stop-doubt → Turns e k r hs ds
 turns-doubt p = record { later = λ z. absurd (omega arith); on = λ z. absurd (omega arith); concluded = not-concluded (omega arith) }
 
+-- the state behind an instruction that raises no height: one more is counted
+abbrev behind : State → ℕ → ℕ → ℕ → ℕ → ℕ → State
+behind s k h d l t =
+    record { stop = stop-on; at = k; height = h; distance = d; count = s .count + 1; greatest = s .greatest; longest = l; noted = t; met = s .met; sets = s .sets }
+
 module _ {e : List ℕ} {s : State} {hs ds : List ℕ} (a : Joined e s hs ds) where
   -- the pass of the definition goes on
   branch-measured : s .greatest ≤ 64 → Decodes e → Aims e → {r : Step} {hs′ ds′ : List ℕ} → Stepped e (s .at) (s .height) (s .distance) (s .greatest) (s .longest) r hs ds hs′ ds′ → r .fault ≡ 0
@@ -282,7 +289,9 @@ module _ {e : List ℕ} {s : State} {hs ds : List ℕ} (a : Joined e s hs ds) wh
 
   -- an instruction that the next start follows
   pub turned-on : {w : Effect} → GoesOn e (s .at) (s .height) w → (x : ℕ) → x ≡ max (s .greatest) (w .height) → {q : Bool} → (q ≡ false → (s .sets ≡ false) × (classAt e (s .at) ≢ setv))
-      → Turns e (s .at) (record { stop = stop-on; at = w .at; height = w .height; distance = s .distance + 1; count = s .count + 1; greatest = x; longest = s .longest; noted = s .noted; met = s .met; sets = q }) hs ds
+      → Turns e (s .at)
+      (record { stop = stop-on; at = w .at; height = w .height; distance = s .distance + 1; count = s .count + 1; greatest = x; longest = s .longest; noted = s .noted; met = s .met; sets = q })
+      hs ds
   turned-on {w} y x p q =
       let k : ℕ = s .at in
       let st = a .stands in
@@ -350,7 +359,7 @@ module _ {e : List ℕ} {s : State} {hs ds : List ℕ} (a : Joined e s hs ds) wh
     jump-tells x = told-jump e (s .at) (s .height) (s .distance) x hs ds hs′ ds′ (b .least) (b .most) (w .heights-are) (w .distances-are)
 
   pub turned-if : IsIfGoto e (s .at) → {r : Jump} {hs′ ds′ : List ℕ} → JumpsOn e (s .at) (s .height) (s .distance) (s .noted) hs ds r hs′ ds′
-      → Turns e (s .at) (record { stop = stop-on; at = s .at + 3; height = r .height; distance = s .distance + 1; count = s .count + 1; greatest = s .greatest; longest = s .longest; noted = r .noted; met = s .met; sets = s .sets }) hs′ ds′
+      → Turns e (s .at) (behind s (s .at + 3) (r .height) (s .distance + 1) (s .longest) (r .noted)) hs′ ds′
   turned-if c {r} {hs′} {ds′} w =
       let k : ℕ = s .at in
       let b = c .jump in
@@ -360,7 +369,7 @@ module _ {e : List ℕ} {s : State} {hs ds : List ℕ} (a : Joined e s hs ds) wh
         concluded = not-concluded (omega arith);
         on = λ _ _. rw (w .height-is)
             (subst
-            (λ (x : ℕ). Branching e (record { stop = stop-on; at = x; height = heightAfter e k (s .height); distance = s .distance + 1; count = s .count + 1; greatest = s .greatest; longest = s .longest; noted = r .noted; met = s .met; sets = s .sets }) hs′ ds′)
+            (λ (x : ℕ). Branching e (behind s x (heightAfter e k (s .height)) (s .distance + 1) (s .longest) (r .noted)) hs′ ds′)
             (b .next-is)
             (record {
               stands = jump-stands b w (omega (arith, jump-after b w, a .stands .highest)) (omega (arith, jump-after b w, w .low));
@@ -378,7 +387,7 @@ module _ {e : List ℕ} {s : State} {hs ds : List ℕ} (a : Joined e s hs ds) wh
 
   pub turned-goto : IsGoto e (s .at) → {r : Jump} {hs′ ds′ : List ℕ} → JumpsOn e (s .at) (s .height) (s .distance) (s .noted) hs ds r hs′ ds′
       → {f : Flow} → Brought hs′ ds′ (s .at + 3) f → f .height ≤ s .greatest
-      → Turns e (s .at) (record { stop = stop-on; at = s .at + 3; height = f .height; distance = f .distance; count = s .count + 1; greatest = s .greatest; longest = s .longest; noted = r .noted; met = s .met; sets = s .sets }) hs′ ds′
+      → Turns e (s .at) (behind s (s .at + 3) (f .height) (f .distance) (s .longest) (r .noted)) hs′ ds′
   turned-goto c {r} {hs′} {ds′} w {f} x low =
       let k : ℕ = s .at in
       let b = c .jump in
@@ -390,7 +399,7 @@ module _ {e : List ℕ} {s : State} {hs ds : List ℕ} (a : Joined e s hs ds) wh
         concluded = not-concluded (omega arith);
         on = λ _ _.
             subst
-            (λ (y : ℕ). Branching e (record { stop = stop-on; at = y; height = f .height; distance = f .distance; count = s .count + 1; greatest = s .greatest; longest = s .longest; noted = r .noted; met = s .met; sets = s .sets }) hs′ ds′)
+            (λ (y : ℕ). Branching e (behind s y (f .height) (f .distance) (s .longest) (r .noted)) hs′ ds′)
             (b .next-is)
             (record {
               stands = st;
@@ -430,7 +439,7 @@ module _ {e : List ℕ} {s : State} {hs ds : List ℕ} (a : Joined e s hs ds) wh
         refl
 
     pub turned-end : s .at + 1 < length e → {f : Flow} → Brought hs ds (s .at + 1) f → f .height ≤ s .greatest → (y : ℕ) → y ≡ max (s .longest) (s .distance + 1)
-        → Turns e (s .at) (record { stop = stop-on; at = s .at + 1; height = f .height; distance = f .distance; count = s .count + 1; greatest = s .greatest; longest = y; noted = s .noted; met = s .met; sets = s .sets }) hs ds
+        → Turns e (s .at) (behind s (s .at + 1) (f .height) (f .distance) y (s .noted)) hs ds
     turned-end i {f} o low y z =
         let k : ℕ = s .at in
         let p : f .height ≡ getD hs (next e k) 0 = o .height-is ∙ ap (λ (j : ℕ). getD hs j 0) (sym (x .next-is)) in
@@ -443,7 +452,7 @@ module _ {e : List ℕ} {s : State} {hs ds : List ℕ} (a : Joined e s hs ds) wh
           concluded = not-concluded (omega arith);
           on = λ _ _.
               subst
-              (λ (m : ℕ). Branching e (record { stop = stop-on; at = m; height = f .height; distance = f .distance; count = s .count + 1; greatest = s .greatest; longest = y; noted = s .noted; met = s .met; sets = s .sets }) hs ds)
+              (λ (m : ℕ). Branching e (behind s m (f .height) (f .distance) y (s .noted)) hs ds)
               (x .next-is)
               (record {
                 stands = st;
@@ -474,7 +483,8 @@ module _ {e : List ℕ} {s : State} {hs ds : List ℕ} (a : Joined e s hs ds) wh
 
       -- an end that is the last byte: accepted
       pub concluded-last : (y h d : ℕ) → y ≡ max (s .longest) (s .distance + 1)
-          → Concluded e (record { stop = stop-accepted; at = s .at; height = h; distance = d; count = s .count + 1; greatest = s .greatest; longest = y; noted = s .noted; met = s .met; sets = s .sets })
+          → Concluded e
+          (record { stop = stop-accepted; at = s .at; height = h; distance = d; count = s .count + 1; greatest = s .greatest; longest = y; noted = s .noted; met = s .met; sets = s .sets })
       concluded-last y _ _ z = record { low = λ _. low; accepts = λ _. last-accepted y z; quiet = λ _. quiet-last e (s .at) (a .stands .start) x last (a .quiet) }
 
 pub turns-last : {e : List ℕ} {k : ℕ} {r : State} {hs ds : List ℕ} → r .stop ≡ stop-accepted → Concluded e r → Turns e k r hs ds
@@ -519,5 +529,6 @@ module _ {e : List ℕ} {k h n g : ℕ} {x : Bool} (f : Following e k h n g x) (
   pub straight-last : Straight e (record { stop = stop-accepted; at = k; height = h; count = n + 1; greatest = g; sets = x })
   straight-last =
       let u = unmeasured-new e 1024 short in
-      let r = concluded-last (joining {r = record { stop = stop-on; distance = n; met = 0 }} (branching-start short f u) (joins-first (u .no-height k (f .inside))) refl) c last refl low (n + 1) 0 0 (omega arith) in
+      let j = joining {r = record { stop = stop-on; distance = n; met = 0 }} (branching-start short f u) (joins-first (u .no-height k (f .inside))) refl in
+      let r = concluded-last j c last refl low (n + 1) 0 0 (omega arith) in
       record { low = λ _. low; accepts = λ _. r .accepts refl; quiet = λ _. r .quiet refl; following = λ _ z. absurd (z refl) }

@@ -28,8 +28,8 @@ unfoldable pub tally : List ℕ → ℕ
 tally [] = 0
 tally (x ∷ xs) = told x + tally xs
 
--- where the loop stands at k, t offsets have been told, and m of them were met as starts. `waiting` has those that were not met: from k on it is the
--- code's table, and what it has lost is a start.
+-- where the loop stands at k, t offsets have been told, and m of them were met as starts. `waiting` has those that were
+-- not met: from k on it is the code's table, and what it has lost is a start.
 pub record Pending (e : List ℕ) (k : ℕ) (hs : List ℕ) (t m : ℕ) : Type 0 where
   pub waiting : List ℕ
   pub long : length e ≤ length waiting
@@ -71,7 +71,8 @@ pub record Jumped (e : List ℕ) (k h d t : ℕ) (hs ds : List ℕ) (r : Jump) (
   pub on : r .stop ≡ stop-on → JumpsOn e k h d t hs ds r hs′ ds′
 
 -- ---- the loop
--- It stands at the start k after n instructions, all of them reached; h and d flow in, g is the greatest height, l the longest walk to an end.
+-- It stands at the start k after n instructions, all of them reached; h and d flow in, g is the greatest height, l the
+-- longest walk to an end.
 pub record Stands (e : List ℕ) (k h n g t : ℕ) (hs ds : List ℕ) : Type 0 where
   pub short : length e ≤ 1024
   pub inside : k < length e

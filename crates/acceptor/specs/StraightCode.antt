@@ -1,5 +1,5 @@
--- The pass that accepts or is in doubt: one instruction, and straight code up to the first jump. That passes 1 and 2 hold is
--- known only when the last start is seen: so all of pass 3 is said under the condition that they do.
+-- The pass that accepts or is in doubt: one instruction, and straight code up to the first jump. That passes 1 and 2
+-- hold is known only when the last start is seen: so all of pass 3 is said under the condition that they do.
 use mathlib.Core.Bool.{Bool, true, false}
 use mathlib.Core.List.{List}
 use mathlib.Core.Path.{_≡_}
@@ -41,15 +41,16 @@ abbrev pub stop-accepted : ℕ
 stop-accepted = 6
 
 -- ---- one instruction
--- an instruction at k that has o operand bytes, needs n cells and leaves m in their place: it goes on, as s says, or is in
--- doubt
+-- an instruction at k that has o operand bytes, needs n cells and leaves m in their place: it goes on, as s says, or is
+-- in doubt
 pub record ByRow (s k h o n m : ℕ) (r : Effect) : Type 0 where
   pub either : r .stop ≢ stop-doubt → r .stop ≡ s
   pub cells : r .stop ≢ stop-doubt → n ≤ h
   pub at-is : r .stop ≢ stop-doubt → r .at ≡ k + 1 + o
   pub height-is : r .stop ≢ stop-doubt → r .height ≡ h - n + m
 
--- the instruction at k, reached with height h, is neither a jump nor an end, and meets no refusal where its bytes are there
+-- the instruction at k, reached with height h, is neither a jump nor an end, and meets no refusal where its bytes are
+-- there
 pub record GoesOn (e : List ℕ) (k h : ℕ) (r : Effect) : Type 0 where
   pub clear : next e k ≤ length e → fault1 e k ≡ 0
   pub straight : kindAt e k < kind-goto

@@ -1,5 +1,6 @@
-// Code with jumps, from its first jump on. The tables hold what jumps bring, as in pass 3. Every start must be reached: a
-// goto or an end is followed by a target. That each target is a start is known by counting: as many are met as were noted.
+// Code with jumps, from its first jump on. The tables hold what jumps bring, as in pass 3. Every start must be reached:
+// a goto or an end is followed by a target. That each target is a start is known by counting: as many are met as were
+// noted.
 ghost use mathlib.Core.Path.{_≡_};
 ghost use mathlib.Core.Logic.{_≢_};
 ghost use Prim.Native.Nat.{ℕ, _+_, _≤_, _<_, max};
@@ -86,7 +87,8 @@ fn is_new(cell: usize) -> usize
     0
 }
 
-// A jump that needs so many cells and leaves none: what arrives at its target. The start behind it lies within the bytes.
+// A jump that needs so many cells and leaves none: what arrives at its target. The start behind it lies within the
+// bytes.
 fn jump(
     e: &[u8],
     at: usize,
@@ -249,8 +251,8 @@ fn at_end(e: &[u8], s: State, heights: &[u8], distances: &[u16]) -> State
     }
 }
 
-// The instruction at `at`, reached with that height. The arms are those of straight code: one function that two loops call
-// would be placed in neither, at twice the cost of an instruction.
+// The instruction at `at`, reached with that height. The arms are those of straight code: one function that two loops
+// call would be placed in neither, at twice the cost of an instruction.
 fn effect_at(e: &[u8], at: usize, height: usize) -> Effect
     requires { ⌜ (at < length (now e)) × (length (now e) ≤ 1024) × (height ≤ 2048) ⌝ }
     ensures { λ r. ⌜ HasEffect (now (e .entry)) at height r ⌝ }
@@ -403,8 +405,8 @@ pub(crate) fn follow_short(e: &[u8], from: Stop) -> State
     follow(e, from, &mut heights, &mut distances)
 }
 
-// The others have tables for 1,024 bytes. No expression is longer, so that the call of itself is never made: it keeps the
-// compiler from placing this function in its caller, whose frame would then have these tables for every expression.
+// The others have tables for 1,024 bytes. No expression is longer, so that the call of itself is never made: it keeps
+// the compiler from placing this function in its caller, whose frame would then have these tables for every expression.
 pub(crate) fn follow_long(e: &[u8], from: Stop) -> State
     requires { ⌜ (length (now e) ≤ 1024) × Following (now e) (from .at) (from .height) (from .count) (from .greatest) (from .sets) ⌝ }
     ensures { λ r. ⌜ Concluded (now (e .entry)) r ⌝ }

@@ -1,5 +1,5 @@
-// What one instruction makes of the height with which it is reached, for the arms of both dispatches. Operands that are cut
-// short are not tested here: the next offset is then not below the length, and the pass is in doubt there.
+// What one instruction makes of the height with which it is reached, for the arms of both dispatches. Operands that are
+// cut short are not tested here: the next offset is then not below the length, and the pass is in doubt there.
 ghost use mathlib.Core.Path.{_≡_};
 ghost use mathlib.Core.Logic.{_≢_};
 ghost use Prim.Native.Nat.{_+_, _≤_, _<_};
@@ -9,8 +9,8 @@ ghost use Rattle.isa.specs.Decode.{kindAt, operand, picked};
 ghost use Rattle.acceptor.specs.StraightCode.{«stop-on», «stop-doubt», ByRow};
 use crate::Effect;
 
-// An instruction behind which the pass does not go on by itself: a jump, an end, or doubt. Its offset and height are of no
-// use, and are no sums of others: the compiler would compute them where the instruction goes on.
+// An instruction behind which the pass does not go on by itself: a jump, an end, or doubt. Its offset and height are of
+// no use, and are no sums of others: the compiler would compute them where the instruction goes on.
 pub(crate) fn halt(stop: u8) -> Effect
     ensures { λ r. ⌜ r .stop ≡ stop ⌝ }
 {

@@ -1,5 +1,6 @@
-// One pass over an expression that accepts it, or is in doubt: then the three passes of `passes` answer. Most expressions
-// are accepted here. Straight code, up to the first jump, needs no table; code with jumps has two from its first jump on.
+// One pass over an expression that accepts it, or is in doubt: then the three passes of `passes` answer. Most
+// expressions are accepted here. Straight code, up to the first jump, needs no table; code with jumps has two from its
+// first jump on.
 ghost use mathlib.Core.Path.{_≡_};
 ghost use mathlib.Core.Logic.{_≢_};
 ghost use Prim.Native.Nat.{_≤_};
@@ -11,8 +12,8 @@ mod branching;
 mod effects;
 mod straight;
 
-// How an instruction, or the pass, goes on (`stop` below): on to the next start; in doubt; at an if_goto, an end, a goto;
-// on to the next start behind a setv; accepted.
+// How an instruction, or the pass, goes on (`stop` below): on to the next start; in doubt; at an if_goto, an end, a
+// goto; on to the next start behind a setv; accepted.
 pub const ON: u8 = 0;
 
 pub const DOUBT: u8 = 1;
@@ -34,8 +35,8 @@ pub struct Effect {
     pub height: usize,
 }
 
-// Where the pass over straight code stopped: the offset, the height there, the instructions before it, the greatest height,
-// and whether one of them is a setv. Accepted: the last instruction is counted too.
+// Where the pass over straight code stopped: the offset, the height there, the instructions before it, the greatest
+// height, and whether one of them is a setv. Accepted: the last instruction is counted too.
 pub struct Stop {
     pub stop: u8,
     pub at: usize,
@@ -59,9 +60,9 @@ pub struct Jump {
     pub noted: usize,
 }
 
-// Where the pass over code with jumps stands: ON, DOUBT or ACCEPTED; the offset, the height and the distance that flow in;
-// the instructions before it; the greatest height; the longest walk to an end; how many targets were noted, and how many of
-// them were met as starts; whether a setv came.
+// Where the pass over code with jumps stands: ON, DOUBT or ACCEPTED; the offset, the height and the distance that flow
+// in; the instructions before it; the greatest height; the longest walk to an end; how many targets were noted, and how
+// many of them were met as starts; whether a setv came.
 pub struct State {
     pub stop: u8,
     pub at: usize,

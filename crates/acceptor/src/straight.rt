@@ -1,5 +1,5 @@
-// Straight code: no table, height and count in locals, one arm for the opcodes of a row. The numbers of a row are literals
-// in its arm, so that no row is read.
+// Straight code: no table, height and count in locals, one arm for the opcodes of a row. The numbers of a row are
+// literals in its arm, so that no row is read.
 ghost use mathlib.Core.Path.{_≡_};
 ghost use Prim.Native.Nat.{_≤_, _<_};
 ghost use lib.ListN.{length};

@@ -1,4 +1,5 @@
--- Pass 2 as the code runs it: the table of marks, the refusal at a jump case by case, and the loop over the jumps noted.
+-- Pass 2 as the code runs it: the table of marks, the refusal at a jump case by case, and the loop over the jumps
+-- noted.
 use mathlib.Core.Bool.{Bool, true, false}
 use mathlib.Core.List.{List, [], _∷_}
 use mathlib.Core.Path.{_≡_, refl, ap, sym, _∙_}

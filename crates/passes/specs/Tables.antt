@@ -88,8 +88,8 @@ pub record Passing (e : List ℕ) (k : ℕ) : Type 0 where
   pub aims : Aims e
   pub start : isStart e k ≡ true
 
--- what comes to a start where jumps have brought the height c and the height h flows in from the start before, or nothing (`unreached`);
--- and the distance, where jumps have brought b and d flows in with h
+-- what comes to a start where jumps have brought the height c and the height h flows in from the start before, or
+-- nothing (`unreached`); and the distance, where jumps have brought b and d flows in with h
 abbrev pub arrived : ℕ → ℕ → ℕ
 arrived c h = cond (eqb h unreached) c (joined c h)
 

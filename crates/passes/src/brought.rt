@@ -1,4 +1,5 @@
-// What jumps bring, in two tables: for each offset the height with which it is reached, and the most instructions before it.
+// What jumps bring, in two tables: for each offset the height with which it is reached, and the most instructions
+// before it.
 ghost use mathlib.Core.Path.{_≡_};
 ghost use Prim.Native.Nat.{_<_, max};
 ghost use lib.ListN.{length};

@@ -39,13 +39,15 @@ pub enum Measure {
     Fault(u8, usize),
 }
 
-// What comes to a start in pass 3: its height and the most instructions before it. Height 255: nothing, 254: heights that differ.
+// What comes to a start in pass 3: its height and the most instructions before it. Height 255: nothing, 254: heights
+// that differ.
 pub struct Flow {
     pub height: usize,
     pub distance: usize,
 }
 
-// One start of pass 3: its number, or 0; what flows on to the next start; the greatest height and the longest walk so far.
+// One start of pass 3: its number, or 0; what flows on to the next start; the greatest height and the longest walk so
+// far.
 pub struct Step {
     pub fault: u8,
     pub height: usize,

@@ -1,4 +1,5 @@
-// Pass 1: instructions follow each other to exactly the end. The same loop marks the starts and notes the jumps, which pass 2 needs.
+// Pass 1: instructions follow each other to exactly the end. The same loop marks the starts and notes the jumps, which
+// pass 2 needs.
 ghost use mathlib.Core.Path.{_≡_};
 ghost use Prim.Native.Nat.{_≤_, _<_};
 ghost use lib.ListN.{length};
@@ -36,7 +37,8 @@ fn fault_at(kind: u8, e: &[u8], at: usize) -> u8
     0
 }
 
-// Notes the start `at` behind the `count` jumps before it, where its instruction is a jump. The answer is how many there are now.
+// Notes the start `at` behind the `count` jumps before it, where its instruction is a jump. The answer is how many
+// there are now.
 fn note(kind: u8, at: usize, jumps: &mut [u16], count: usize) -> usize
     requires { ⌜ (at < 1024) × (count ≤ 341) ⌝ ∗ ⌜ (kind-goto ≤ kind → kind ≤ kind-if-goto → count < length (now jumps)) ⌝ }
     ensures { λ r. ⌜ Notes (isJump kind) at count (now (jumps .entry)) r (now (jumps .exit)) ⌝ }

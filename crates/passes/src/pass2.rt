@@ -1,4 +1,5 @@
-// Pass 2: every jump, reached or not, aims at a start greater than its own offset. It goes over the jumps that pass 1 noted.
+// Pass 2: every jump, reached or not, aims at a start greater than its own offset. It goes over the jumps that pass 1
+// noted.
 ghost use mathlib.Core.Path.{_≡_};
 ghost use mathlib.Core.Bool.{true};
 ghost use Prim.Native.Nat.{_≤_};

@@ -1,5 +1,5 @@
--- `Promises` is the page for users of this crate; `Decoded`, `Faults`, `Along` and `Cases` serve those who follow the passes; the
--- others hold the work behind them.
+-- `Promises` is the page for users of this crate; `Decoded`, `Faults`, `Along` and `Cases` serve those who follow the
+-- passes; the others hold the work behind them.
 pub mod Decoded
 pub mod Faults
 pub mod Along

@@ -1,5 +1,5 @@
--- An expression with very many walks. Document 01's starred examples, verified and run, are one list in the crate `machine`; the others, and many random
--- expressions, go through the program `verifier_vectors`.
+-- An expression with very many walks. Document 01's starred examples, verified and run, are one list in the crate
+-- `machine`; the others, and many random expressions, go through the program `verifier_vectors`.
 use mathlib.Core.Bool.{Bool, true, false, _&&_}
 use mathlib.Core.List.{List, [], _∷_}
 use Prim.Native.Nat.{ℕ, zero, suc, _+_, _/_, _%_}
@@ -20,7 +20,8 @@ same (accepted n g l) (refused r k) = false
 same (refused r k) (accepted n g l) = false
 same (refused r k) (refused s j) = eqb r s && eqb k j
 
--- n conditional jumps from offset i on, each to the next start, then end: 2 to the power of n walks to the end, all of one length
+-- n conditional jumps from offset i on, each to the next start, then end: 2 to the power of n walks to the end, all of
+-- one length
 abbrev chain : ℕ → ℕ → List ℕ
 chain zero i = 0x27 ∷ []
 chain (suc n) i = 0x22 ∷ 0x01 ∷ 0x20 ∷ (i + 5) / 256 ∷ (i + 5) % 256 ∷ chain n (i + 5)

@@ -1,4 +1,5 @@
--- The verifier's answer for any bytes: document 01, "Verifying". "Three passes, each in rising offset; the first fault found is the answer."
+-- The verifier's answer for any bytes: document 01, "Verifying". "Three passes, each in rising offset; the first fault
+-- found is the answer."
 use mathlib.Core.Bool.{true, cond, _&&_}
 use mathlib.Core.List.{List}
 use mathlib.Core.Logic.{_≢_}

@@ -1,5 +1,5 @@
-// The verifier of agent expressions: the entries. Most expressions are accepted in one pass; where that pass is in doubt,
-// the three passes answer.
+// The verifier of agent expressions: the entries. Most expressions are accepted in one pass; where that pass is in
+// doubt, the three passes answer.
 ghost use mathlib.Core.Path.{_≡_};
 ghost use mathlib.Core.Bool.{false};
 ghost use Prim.Native.Nat.{_≤_};

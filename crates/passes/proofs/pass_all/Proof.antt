@@ -17,7 +17,10 @@ enum-known-count c = search needs
 
 aim-requires : tie.Need-aim-requires
 aim-requires c κs =
-    let p = c .before .before .before .before .before .before .before .before .before .before .before .before .before .before .before .before .before .pre in let s = rw (c .before .before .before .count .given .1) at (c .before .before .before .before .before .before .before .before .before .scan .ensures) in (p .2, s .0, s .2, s .3)
+    let at-count = c .before .before .before in
+    let at-scan = at-count .before .before .before .before .before .before in
+    let start = at-scan .before .before .before .before .before .before .before .before in
+    let p = start .pre in let s = rw (at-count .count .given .1) at (at-scan .scan .ensures) in (p .2, s .0, s .2, s .3)
 
 enum-known-number-2 : tie.Need-enum-known-number-2
 enum-known-number-2 c = search needs
@@ -27,7 +30,12 @@ enum-told c = search needs
 
 measure-requires : tie.Need-measure-requires
 measure-requires c κs =
-    let p = c .before .before .before .before .before .before .before .before .before .before .before .before .before .before .before .before .before .before .before .before .before .before .pre in let s = rw (c .before .before .before .before .before .before .before .before .count .given .1) at (c .before .before .before .before .before .before .before .before .before .before .before .before .before .before .scan .ensures) in (p .0, p .2, s .0, aim-fine _ (sym (c .before .before .enum-told .given .1) ∙ c .before .before .before .before .aim .ensures), p .4)
+    let at-enum-told = c .before .before in
+    let at-aim = at-enum-told .before .before in
+    let at-count = at-aim .before .before .before .before in
+    let at-scan = at-count .before .before .before .before .before .before in
+    let start = at-scan .before .before .before .before .before .before .before .before in
+    let p = start .pre in let s = rw (at-count .count .given .1) at (at-scan .scan .ensures) in (p .0, p .2, s .0, aim-fine _ (sym (at-enum-told .enum-told .given .1) ∙ at-aim .aim .ensures), p .4)
 
 conclude-requires : tie.Need-conclude-requires
 conclude-requires c κs = search needs
@@ -40,7 +48,10 @@ same-length-2 c = search needs
 
 returns : tie.Need-returns
 returns c =
-    let p = c .before .before .before .before .before .before .before .before .before .before .before .before .before .before .before .pre in verdict-1 _ (p .1) (p .2) _ _ (rw (c .before .number .given .1) at (c .before .before .before .before .before .before .before .scan .ensures))
+    let at-number = c .before in
+    let at-scan = at-number .before .before .before .before .before .before in
+    let start = at-scan .before .before .before .before .before .before .before .before in
+    let p = start .pre in verdict-1 _ (p .1) (p .2) _ _ (rw (at-number .number .given .1) at (at-scan .scan .ensures))
 
 same-length-3 : tie.Need-same-length-3
 same-length-3 c = search needs
@@ -50,7 +61,12 @@ same-length-4 c = search needs
 
 returns-2 : tie.Need-returns-2
 returns-2 c =
-    let p = c .before .before .before .before .before .before .before .before .before .before .before .before .before .before .before .before .before .before .before .before .before .pre in let s = rw (c .before .before .before .before .before .before .before .count .given .1) at (c .before .before .before .before .before .before .before .before .before .before .before .before .before .scan .ensures) in verdict-2 _ (p .1) (p .2) (s .0) _ _ (aim-fault _ _ _ (sym (c .before .number2 .given .1) ∙ c .before .before .before .aim .ensures))
+    let at-number2 = c .before in
+    let at-aim = at-number2 .before .before in
+    let at-count = at-aim .before .before .before .before in
+    let at-scan = at-count .before .before .before .before .before .before in
+    let start = at-scan .before .before .before .before .before .before .before .before in
+    let p = start .pre in let s = rw (at-count .count .given .1) at (at-scan .scan .ensures) in verdict-2 _ (p .1) (p .2) (s .0) _ _ (aim-fault _ _ _ (sym (at-number2 .number2 .given .1) ∙ at-aim .aim .ensures))
 
 same-length-5 : tie.Need-same-length-5
 same-length-5 c = search needs
@@ -66,7 +82,13 @@ same-length-8 c = search needs
 
 returns-3 : tie.Need-returns-3
 returns-3 c =
-    let p = c .before .before .before .before .before .before .before .before .before .before .before .before .before .before .before .before .before .before .before .before .before .before .before .before .before .before .before .before .pre in let s = rw (c .before .before .before .before .before .before .before .before .before .before .before .before .before .before .count .given .1) at (c .before .before .before .before .before .before .before .before .before .before .before .before .before .before .before .before .before .before .before .before .scan .ensures) in c .conclude .ensures _ _ (c .before .before .before .before .before .measure .ensures) (s .1) ∙ sym (verdict-3 _ (p .1) (p .2) (s .0) (aim-fine _ (sym (c .before .before .before .before .before .before .before .before .enum-told .given .1) ∙ c .before .before .before .before .before .before .before .before .before .before .aim .ensures)))
+    let at-measure = c .before .before .before .before .before in
+    let at-enum-told = at-measure .before .before .before in
+    let at-aim = at-enum-told .before .before in
+    let at-count = at-aim .before .before .before .before in
+    let at-scan = at-count .before .before .before .before .before .before in
+    let start = at-scan .before .before .before .before .before .before .before .before in
+    let p = start .pre in let s = rw (at-count .count .given .1) at (at-scan .scan .ensures) in c .conclude .ensures _ _ (at-measure .measure .ensures) (s .1) ∙ sym (verdict-3 _ (p .1) (p .2) (s .0) (aim-fine _ (sym (at-enum-told .enum-told .given .1) ∙ at-aim .aim .ensures)))
 
 pub pass-all-spec : {M : Type 1} → statement M
 pass-all-spec =

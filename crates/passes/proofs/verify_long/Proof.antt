@@ -19,7 +19,8 @@ slice-aggregate-pass-all-4 c = search needs
 
 pass-all-requires : tie.Need-pass-all-requires
 pass-all-requires c κs =
-    let p = c .before .before .before .before .before .pre in (p .0, p .1, omega arith, unmarked-new _ 1024 341 (p .2) (omega arith), unmeasured-new _ 1024 (p .2))
+    let start = c .before .before .before .before .before in
+    let p = start .pre in (p .0, p .1, omega arith, unmarked-new _ 1024 341 (p .2) (omega arith), unmeasured-new _ 1024 (p .2))
 
 returns : tie.Need-returns
 returns c = c .before .before .before .before .pass-all .ensures

@@ -24,7 +24,10 @@ add-next : tie.Need-add-next
 add-next c = search needs
 
 brought-to-requires : tie.Need-brought-to-requires
-brought-to-requires c κs = let w = c .before .before .before .before .before .before .before .before .jump .ensures .on (omega arith) in let a = c .before .before .before .before .before .before .before .before .before .before .before .before .before .before .pre .0 .stands in (omega (arith, w .room, a .heights-long), omega (arith, w .room, a .distances-long))
+brought-to-requires c κs =
+    let at-jump = c .before .before .before .before .before .before .before .before in
+    let start = at-jump .before .before .before .before .before .before in
+    let w = at-jump .jump .ensures .on (omega arith) in let a = start .pre .0 .stands in (omega (arith, w .room, a .heights-long), omega (arith, w .room, a .distances-long))
 
 in-doubt-requires-2 : tie.Need-in-doubt-requires-2
 in-doubt-requires-2 c κs = search needs
@@ -39,7 +42,9 @@ returns-2 : tie.Need-returns-2
 returns-2 c = turns-doubt (c .in-doubt2 .ensures)
 
 add-t18 : tie.Need-add-t18
-add-t18 c = omega (arith, c .before .before .before .before .before .before .before .before .before .before .before .before .before .before .before .before .before .before .before .pre .0 .stands .few, c .before .before .before .before .before .before .before .before .before .before .before .before .before .before .before .before .before .before .before .pre .0 .stands .inside, c .before .before .before .before .before .before .before .before .before .before .before .before .before .before .before .before .before .before .before .pre .0 .stands .short)
+add-t18 c =
+    let start = c .before .before .before .before .before .before .before .before .before .before .before .before .before .before .before .before .before .before .before in
+    omega (arith, start .pre .0 .stands .few, start .pre .0 .stands .inside, start .pre .0 .stands .short)
 
 same-length-5 : tie.Need-same-length-5
 same-length-5 c = search needs
@@ -48,7 +53,11 @@ same-length-6 : tie.Need-same-length-6
 same-length-6 c = search needs
 
 returns-3 : tie.Need-returns-3
-returns-3 c = turned-goto (c .before .before .before .before .before .before .before .before .before .before .before .before .before .before .before .before .before .before .before .pre .0) (c .before .before .before .before .before .before .before .before .before .before .before .before .before .before .before .before .before .before .before .pre .1) (c .before .before .before .before .before .before .before .before .before .before .before .before .before .jump .ensures .on (omega arith)) (c .before .before .before .before .brought-to .ensures) (omega arith)
+returns-3 c =
+    let at-brought-to = c .before .before .before .before in
+    let at-jump = at-brought-to .before .before .before .before .before .before .before .before .before in
+    let start = at-jump .before .before .before .before .before .before in
+    turned-goto (start .pre .0) (start .pre .1) (at-jump .jump .ensures .on (omega arith)) (at-brought-to .brought-to .ensures) (omega arith)
 
 pub at-goto-spec : {M : Type 1} → statement M
 at-goto-spec =

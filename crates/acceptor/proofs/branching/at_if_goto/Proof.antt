@@ -36,7 +36,10 @@ same-length-4 : tie.Need-same-length-4
 same-length-4 c = search needs
 
 returns-2 : tie.Need-returns-2
-returns-2 c = turned-if (c .before .before .before .before .before .before .before .before .before .before .before .before .before .before .pre .0) (c .before .before .before .before .before .before .before .before .before .before .before .before .before .before .pre .1) (c .before .before .before .before .before .before .before .before .jump .ensures .on (omega arith))
+returns-2 c =
+    let at-jump = c .before .before .before .before .before .before .before .before in
+    let start = at-jump .before .before .before .before .before .before in
+    turned-if (start .pre .0) (start .pre .1) (at-jump .jump .ensures .on (omega arith))
 
 pub at-if-goto-spec : {M : Type 1} → statement M
 at-if-goto-spec =

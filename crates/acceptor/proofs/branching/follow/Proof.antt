@@ -31,7 +31,10 @@ returns : tie.Need-returns Inv-loop μ-loop
 returns c = c .before .before .before .before .before .before .at-start .ensures .concluded
 
 loop-less : tie.Need-loop-less Inv-loop μ-loop
-loop-less c = let w = c .before .before .before .before .before .before .at-start .ensures .later (omega arith) in omega (arith, w, c .before .before .before .before .before .before .before .before .before .before .loop .inv .1)
+loop-less c =
+    let at-at-start = c .before .before .before .before .before .before in
+    let at-loop = at-at-start .before .before .before .before in
+    let w = at-at-start .at-start .ensures .later (omega arith) in omega (arith, w, at-loop .loop .inv .1)
 
 loop-again : tie.Need-loop-again Inv-loop μ-loop
 loop-again c = ((λ i. c .before .before .before .before .before .before .at-start .ensures .on (omega arith) i), refl, search needs, search needs)

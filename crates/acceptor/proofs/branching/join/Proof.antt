@@ -34,7 +34,11 @@ add-t16 : tie.Need-add-t16
 add-t16 c = search needs
 
 returns-3 : tie.Need-returns-3
-returns-3 c = joins-both (omega (arith, c .before .before .before .before .before .wide .ensures .0)) (omega (arith, c .before .before .before .before .before .wide .ensures .0)) (c .greater .ensures ∙ ap (λ (y : ℕ). max y (c .before .before .before .before .before .before .before .before .before .args .distance)) (c .before .wide16 .ensures .0))
+returns-3 c =
+    let at-wide16 = c .before in
+    let at-wide = at-wide16 .before .before .before .before in
+    let start = at-wide .before .before .before .before in
+    joins-both (omega (arith, at-wide .wide .ensures .0)) (omega (arith, at-wide .wide .ensures .0)) (c .greater .ensures ∙ ap (λ (y : ℕ). max y (start .args .distance)) (at-wide16 .wide16 .ensures .0))
 
 pub join-spec : {M : Type 1} → statement M
 join-spec =

@@ -66,7 +66,13 @@ same-length-2 : tie.Need-same-length-2
 same-length-2 c = search needs
 
 returns-6 : tie.Need-returns-6
-returns-6 c = let w = c .before .before .before .before .before .before .before .before .wide .ensures .0 in let n = c .before .before .before .before .before .before .before .is-new .ensures in jumped-by _ _ (c .before .before .before .before .before .before .before .before .before .before .before .before .before .before .before .before .before .before .before .pre .6) (omega arith) (omega arith) (omega arith) (c .before .before .before .before .before .before .before .before .before .before .before .before .operand-at .ensures .0) (omega arith) (omega arith) refl (λ q. omega (arith, n .1 (w ∙ q))) (λ q. omega (arith, n .2 (λ z. q (sym w ∙ z)))) (c .before .before .before .before .arrive-at .ensures .0) (c .before .before .before .before .arrive-at .ensures .1)
+returns-6 c =
+    let at-arrive-at = c .before .before .before .before in
+    let at-is-new = at-arrive-at .before .before .before in
+    let at-wide = at-is-new .before in
+    let at-operand-at = at-wide .before .before .before .before in
+    let start = at-operand-at .before .before .before .before .before .before .before in
+    let w = at-wide .wide .ensures .0 in let n = at-is-new .is-new .ensures in jumped-by _ _ (start .pre .6) (omega arith) (omega arith) (omega arith) (at-operand-at .operand-at .ensures .0) (omega arith) (omega arith) refl (λ q. omega (arith, n .1 (w ∙ q))) (λ q. omega (arith, n .2 (λ z. q (sym w ∙ z)))) (at-arrive-at .arrive-at .ensures .0) (at-arrive-at .arrive-at .ensures .1)
 
 pub jump-spec : {M : Type 1} → statement M
 jump-spec =

@@ -15,7 +15,10 @@ returns : tie.Need-returns
 returns c = search needs
 
 operand-at-requires : tie.Need-operand-at-requires
-operand-at-requires c κs = let a = c .before .before .args in (omega (arith, ext-operands (getD (a .e .now) (a .at) 0) (omega arith)), omega (arith, ext-operands (getD (a .e .now) (a .at) 0) (omega arith)))
+operand-at-requires c κs =
+    let start = c .before .before in
+    let o = ext-operands (getD (start .args .e .now) (start .args .at) 0) (omega arith) in
+    (omega (arith, o), omega (arith, o))
 
 halt-requires-2 : tie.Need-halt-requires-2
 halt-requires-2 c κs = search needs

@@ -16,7 +16,10 @@ returns : tie.Need-returns
 returns c = search needs
 
 operand-at-requires : tie.Need-operand-at-requires
-operand-at-requires c κs = let a = c .before .before .args in (omega (arith, pick-operands (getD (a .e .now) (a .at) 0) (omega arith)), omega (arith, pick-operands (getD (a .e .now) (a .at) 0) (omega arith)))
+operand-at-requires c κs =
+    let start = c .before .before in
+    let o = pick-operands (getD (start .args .e .now) (start .args .at) 0) (omega arith) in
+    (omega (arith, o), omega (arith, o))
 
 add-by-row : tie.Need-add-by-row
 add-by-row c = search needs

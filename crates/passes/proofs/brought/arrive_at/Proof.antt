@@ -51,7 +51,11 @@ same-length-2 c = search needs
 returns : tie.Need-returns
 unfolding arrive raise
 returns c =
-    let a = c .before .before .before .before .before .before .before .before .args in (ap (λ (x : ℕ). set (a .heights .now) (a .to) x) (c .before .before .before .joined-with .ensures .0 ∙ ap (λ (y : ℕ). joined y (a .height)) (c .before .before .before .before .wide .ensures .0)), ap (λ (x : ℕ). set (a .distances .now) (a .to) x) (c .greater .ensures ∙ ap (λ (y : ℕ). max y (a .distance)) (c .before .wide16 .ensures .0)))
+    let at-wide16 = c .before in
+    let at-joined-with = at-wide16 .before .before in
+    let at-wide = at-joined-with .before in
+    let start = at-wide .before .before .before .before in
+    let a = start .args in (ap (λ (x : ℕ). set (a .heights .now) (a .to) x) (at-joined-with .joined-with .ensures .0 ∙ ap (λ (y : ℕ). joined y (a .height)) (at-wide .wide .ensures .0)), ap (λ (x : ℕ). set (a .distances .now) (a .to) x) (c .greater .ensures ∙ ap (λ (y : ℕ). max y (a .distance)) (at-wide16 .wide16 .ensures .0)))
 
 pub arrive-at-spec : {M : Type 1} → statement M
 arrive-at-spec =

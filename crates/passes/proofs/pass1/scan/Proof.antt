@@ -51,14 +51,19 @@ same-length-4 c = search needs
 
 returns-2 : tie.Need-returns-2 Inv-loop μ-loop
 returns-2 c =
-    scanning-fault (c .before .before .before .before .before .loop .inv .0) 4 (search needs) (f-short _ _ (search needs) (omega (arith, c .before .column .ensures))) (omega arith)
+    let at-column = c .before in
+    let at-loop = at-column .before .before .before .before in
+    scanning-fault (at-loop .loop .inv .0) 4 (search needs) (f-short _ _ (search needs) (omega (arith, at-column .column .ensures))) (omega arith)
 
 column-requires-2 : tie.Need-column-requires-2 Inv-loop μ-loop
 column-requires-2 c κs = search needs
 
 look-requires : tie.Need-look-requires Inv-loop μ-loop
 look-requires c κs =
-    let s = c .before .before .before .before .before .before .before .loop .inv .0 in ((omega arith, omega (arith, s .few-jumps, s .within), omega (arith, c .before .before .before .column .ensures), c .before .column2 .ensures), λ p q. note-room s (omega (arith, c .before .before .before .column .ensures)) (omega (arith, c .before .column2 .ensures)) (omega (arith, c .before .column2 .ensures)))
+    let at-column2 = c .before in
+    let at-column = at-column2 .before .before in
+    let at-loop = at-column .before .before .before .before in
+    let s = at-loop .loop .inv .0 in ((omega arith, omega (arith, s .few-jumps, s .within), omega (arith, at-column .column .ensures), at-column2 .column2 .ensures), λ p q. note-room s (omega (arith, at-column .column .ensures)) (omega (arith, at-column2 .column2 .ensures)) (omega (arith, at-column2 .column2 .ensures)))
 
 same-length-5 : tie.Need-same-length-5 Inv-loop μ-loop
 same-length-5 c = search needs
@@ -68,7 +73,9 @@ same-length-6 c = search needs
 
 returns-3 : tie.Need-returns-3 Inv-loop μ-loop
 returns-3 c =
-    scanning-fault (c .before .before .before .before .before .before .before .before .before .before .before .before .loop .inv .0) _ (search needs) (c .before .before .before .before .look .ensures .0) (c .if3 .taken)
+    let at-look = c .before .before .before .before in
+    let at-loop = at-look .before .before .before .before .before .before .before .before in
+    scanning-fault (at-loop .loop .inv .0) _ (search needs) (at-look .look .ensures .0) (c .if3 .taken)
 
 slice-write-marks : tie.Need-slice-write-marks Inv-loop μ-loop
 slice-write-marks c =
@@ -82,7 +89,11 @@ loop-less c = search needs
 
 loop-again : tie.Need-loop-again Inv-loop μ-loop
 loop-again c =
-    let n = c .before .before .before .before .look .ensures .1 in (rw (c .before .before .before .before .before .before .before .before .column .ensures, n .count-is, n .table-is, c .before .before .before .before .before .before .column2 .ensures) (scanning-turn (c .before .before .before .before .before .before .before .before .before .before .before .before .loop .inv .0) (search needs) (omega (arith, c .before .before .before .before .look .ensures .0))), search needs, search needs)
+    let at-look = c .before .before .before .before in
+    let at-column2 = at-look .before .before in
+    let at-column = at-column2 .before .before in
+    let at-loop = at-column .before .before .before .before in
+    let n = at-look .look .ensures .1 in (rw (at-column .column .ensures, n .count-is, n .table-is, at-column2 .column2 .ensures) (scanning-turn (at-loop .loop .inv .0) (search needs) (omega (arith, at-look .look .ensures .0))), search needs, search needs)
 
 same-length-7 : tie.Need-same-length-7 Inv-loop μ-loop
 same-length-7 c = search needs

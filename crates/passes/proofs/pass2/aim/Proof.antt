@@ -25,7 +25,9 @@ shared-slice-read-at c = omega (arith, c .before .before .before .before .before
 
 cast-at : tie.Need-cast-at Inv-loop μ-loop
 cast-at c =
-    let p = c .before .before .before .before .before .before .pre in record { fits = omega (arith, p .0, start-in _ _ (noted-at (p .3) _ (c .before .loop-test .taken) .0)) }
+    let at-loop-test = c .before in
+    let start = at-loop-test .before .before .before .before .before in
+    let p = start .pre in record { fits = omega (arith, p .0, start-in _ _ (noted-at (p .3) _ (at-loop-test .loop-test .taken) .0)) }
 
 fault-at-requires : tie.Need-fault-at-requires Inv-loop μ-loop
 fault-at-requires c κs =
@@ -33,7 +35,11 @@ fault-at-requires c κs =
 
 returns : tie.Need-returns Inv-loop μ-loop
 returns c =
-    aiming-fault (c .before .before .before .before .before .before .before .before .pre .3 .room) (c .before .before .before .before .loop .inv) (c .before .before .before .loop-test .taken) refl (c .before .fault-at .ensures) (c .if1 .taken)
+    let at-fault-at = c .before in
+    let at-loop-test = at-fault-at .before .before in
+    let at-loop = at-loop-test .before in
+    let start = at-loop .before .before .before .before in
+    aiming-fault (start .pre .3 .room) (at-loop .loop .inv) (at-loop-test .loop-test .taken) refl (at-fault-at .fault-at .ensures) (c .if1 .taken)
 
 add-i : tie.Need-add-i Inv-loop μ-loop
 add-i c = search needs
@@ -43,7 +49,10 @@ loop-less c = search needs
 
 loop-again : tie.Need-loop-again Inv-loop μ-loop
 loop-again c =
-    aiming-turn (c .before .before .before .before .before .before .before .before .pre .3 .room) (c .before .before .before .before .loop .inv) (c .before .before .before .loop-test .taken) (omega arith)
+    let at-loop-test = c .before .before .before in
+    let at-loop = at-loop-test .before in
+    let start = at-loop .before .before .before .before in
+    aiming-turn (start .pre .3 .room) (at-loop .loop .inv) (at-loop-test .loop-test .taken) (omega arith)
 
 returns-2 : tie.Need-returns-2 Inv-loop μ-loop
 returns-2 c =

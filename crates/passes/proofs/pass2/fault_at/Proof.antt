@@ -21,15 +21,23 @@ shared-slice-read-is-start c = omega (arith, c .before .before .before .before .
 
 returns-2 : tie.Need-returns-2
 returns-2 c =
-    let p = c .before .before .before .before .before .before .before .pre in f-backward _ _ (p .4) (mark-says _ _ _ _ _ (c .before .if2 .taken) (p .2) (c .before .before .before .before .operand-at .ensures .0) (omega arith)) (omega arith)
+    let at-if2 = c .before in
+    let at-operand-at = at-if2 .before .before .before in
+    let start = at-operand-at .before .before .before in
+    let p = start .pre in f-backward _ _ (p .4) (mark-says _ _ _ _ _ (at-if2 .if2 .taken) (p .2) (at-operand-at .operand-at .ensures .0) (omega arith)) (omega arith)
 
 returns-3 : tie.Need-returns-3
 returns-3 c =
-    let p = c .before .before .before .before .before .before .before .pre in f-forward _ _ (p .4) (mark-says _ _ _ _ _ (c .before .if2 .taken) (p .2) (c .before .before .before .before .operand-at .ensures .0) (omega arith)) (omega arith)
+    let at-if2 = c .before in
+    let at-operand-at = at-if2 .before .before .before in
+    let start = at-operand-at .before .before .before in
+    let p = start .pre in f-forward _ _ (p .4) (mark-says _ _ _ _ _ (at-if2 .if2 .taken) (p .2) (at-operand-at .operand-at .ensures .0) (omega arith)) (omega arith)
 
 returns-4 : tie.Need-returns-4
 returns-4 c =
-    let p = c .before .before .before .before .before .before .pre in f-no-start _ _ (p .4) (mark-says _ _ _ _ _ (c .if2 .left) (p .2) (c .before .before .before .operand-at .ensures .0) (omega arith))
+    let at-operand-at = c .before .before .before in
+    let start = at-operand-at .before .before .before in
+    let p = start .pre in f-no-start _ _ (p .4) (mark-says _ _ _ _ _ (c .if2 .left) (p .2) (at-operand-at .operand-at .ensures .0) (omega arith))
 
 pub fault-at-spec : {M : Type 1} → statement M
 fault-at-spec =

@@ -15,7 +15,9 @@ wide-requires c κs = search needs
 
 returns : tie.Need-returns
 returns c =
-    incoming-flow _ _ _ _ (omega (arith, c .before .wide .ensures .0, c .if1 .taken)) (c .before .before .before .before .before .pre .3) (c .before .before .before .before .before .pre .2)
+    let at-wide = c .before in
+    let start = at-wide .before .before .before .before in
+    incoming-flow _ _ _ _ (omega (arith, at-wide .wide .ensures .0, c .if1 .taken)) (start .pre .3) (start .pre .2)
 
 mul-wide16 : tie.Need-mul-wide16
 mul-wide16 c = search needs
@@ -28,7 +30,9 @@ wide16-requires c κs = search needs
 
 returns-2 : tie.Need-returns-2
 returns-2 c =
-    incoming-jump _ _ _ _ (c .if2 .taken) (c .before .before .before .before .wide .ensures .0) (c .before .before .before .before .wide .ensures .1) (c .before .wide16 .ensures .0)
+    let at-wide16 = c .before in
+    let at-wide = at-wide16 .before .before .before in
+    incoming-jump _ _ _ _ (c .if2 .taken) (at-wide .wide .ensures .0) (at-wide .wide .ensures .1) (at-wide16 .wide16 .ensures .0)
 
 joined-with-requires : tie.Need-joined-with-requires
 joined-with-requires c κs = search needs
@@ -38,7 +42,12 @@ greater-requires c κs = search needs
 
 returns-3 : tie.Need-returns-3
 returns-3 c =
-    let a = c .before .before .before .before .before .before .before .before .before .before .args in incoming-both _ _ _ _ (c .before .before .if2 .left) (c .before .joined-with .ensures .0 ∙ ap (λ (y : ℕ). joined y (a .height)) (c .before .before .before .before .before .before .wide .ensures .0)) (c .before .joined-with .ensures .1) (c .greater .ensures ∙ ap (λ (y : ℕ). max y (a .distance)) (c .before .before .before .wide16 .ensures .0))
+    let at-joined-with = c .before in
+    let at-if2 = at-joined-with .before in
+    let at-wide16 = at-if2 .before in
+    let at-wide = at-wide16 .before .before .before in
+    let start = at-wide .before .before .before .before in
+    let a = start .args in incoming-both _ _ _ _ (at-if2 .if2 .left) (at-joined-with .joined-with .ensures .0 ∙ ap (λ (y : ℕ). joined y (a .height)) (at-wide .wide .ensures .0)) (at-joined-with .joined-with .ensures .1) (c .greater .ensures ∙ ap (λ (y : ℕ). max y (a .distance)) (at-wide16 .wide16 .ensures .0))
 
 pub incoming-spec : {M : Type 1} → statement M
 incoming-spec =
