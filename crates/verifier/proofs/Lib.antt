@@ -1,5 +1,6 @@
 -- `Promises` is the page for users of this crate; the others hold the work behind it.
 pub mod Decoded
+pub mod Setting
 pub mod Scanning
 pub mod Aiming
 pub mod Along

@@ -1,4 +1,5 @@
 // The verifier of agent expressions: three passes over the bytes, and what they find.
+ghost use mathlib.Core.Bool.{false};
 ghost use mathlib.Core.Path.{_≡_};
 ghost use mathlib.Core.List.{List};
 ghost use Prim.Native.Nat.{ℕ, _≤_};
@@ -6,9 +7,10 @@ ghost use Rattle.isa.specs.Starts.{starts};
 ghost use lib.ListN.{length};
 ghost use Rattle.isa.specs.Rows.{table};
 ghost use Rattle.verifier.specs.Pass3.{Outcome};
-ghost use Rattle.verifier.specs.Verdict.{verdict, verdictOf, after3};
+ghost use Rattle.verifier.specs.Verdict.{verdict, verdictOf, after3, SetsNothing};
 ghost use Rattle.verifier.specs.Tables.{measureOf, Unmarked, Unmeasured};
 
+mod noting;
 mod pass1;
 mod pass2;
 mod pass3;
@@ -17,6 +19,12 @@ mod pass3;
 pub enum Answer {
     Accepted(usize, u8, usize),
     Refused(u8, usize),
+}
+
+// The verifier's answer, and whether a setv may occur: where `sets` is false, no instruction of the expression is one.
+pub struct Noted {
+    pub answer: Answer,
+    pub sets: bool,
 }
 
 // Pass 1: instruction count and jump count, or number and offset.
@@ -63,6 +71,15 @@ pub fn verify(e: &[u8]) -> Answer
     ensures { λ r. ⌜ verdictOf r ≡ verdict (now (e .entry)) ⌝ }
 {
     verify_by(&isa::ROWS, e)
+}
+
+// The same, for a caller that wants to know whether a variable may be set.
+pub fn verify_noting(e: &[u8]) -> Noted
+    ensures { λ r. ⌜ (verdictOf (r .answer) ≡ verdict (now (e .entry))) × (r .sets ≡ false → SetsNothing (now (e .entry))) ⌝ }
+{
+    let answer = verify(e);
+    let sets = noting::may_set(&isa::ROWS, e);
+    Noted { answer, sets }
 }
 
 // The same for a caller that already holds the rows.
