@@ -4,4 +4,5 @@ pub mod Inputs
 pub mod Entering
 pub mod Looping
 pub mod Reporting
+pub mod Settling
 pub mod Promises

@@ -6,20 +6,22 @@ use mathlib.Core.Path.{_≡_, refl, ap, sym, _∙_}
 use Prim.Native.Nat.{ℕ, suc, _+_, _-_, _≤_, _<_}
 use native.Mathlib.Nat.{sub-zero, sub-self}
 use native.Mathlib.Omega.{arith}
-use lib.ListN.{length, length-append}
+use lib.ListN.{length, length-append, getD}
 use lib.Dec.{eqb, leb}
-use borrow.Author.Tests.{eqb-true, eqb-false, leb-true}
+use borrow.Author.Tests.{eqb-true, eqb-false, leb-true, ne-eqb}
 use Rattle.encoding.specs.Written.{writtenAt}
 use Rattle.encoding.proofs.Promises.{written-length, written-nothing, written-more}
-use Rattle.isa.specs.Classes.{kind-end}
+use Rattle.isa.specs.Classes.{kind-end, opcodes, classOf}
 use Rattle.isa.specs.Decode.{kindAt}
 use Rattle.isa.specs.Held.{held}
 use Rattle.isa.specs.Rows.{table}
-use Rattle.isa.proofs.Promises.{length-held}
+use Rattle.isa.specs.Starts.{isStart}
+use Rattle.isa.proofs.Promises.{length-held, walk-last}
 use Rattle.frames.specs.Record.{Record, encodeAll}
 use Rattle.frames.specs.Trailer.{trailerSize, encodeTrailer}
 use Rattle.frames.proofs.Promises.{encode-all-append, trailer-length}
 use Rattle.verdict.specs.Acceptance.{Accepted, Ready}
+use Rattle.verdict.specs.Verdict.{SetsNothing}
 use Rattle.machine.specs.Fed.{Fed, State, begin}
 use Rattle.machine.specs.Meaning.{Done, leaves, faults, endDone, done, stackAfter, variablesAfter, offsetAfter}
 use Rattle.machine.specs.Machine.{answer, Ended, completed, stopped, onward, moves}
@@ -28,7 +30,7 @@ use Rattle.machine.proofs.Promises.{OnWalk, walk-begins, walk-ready, walk-moves
 use Rattle.operations.specs.Here.{Place}
 use Rattle.operations.specs.declared.Next.{Next}
 use Rattle.stepping.specs.Effect.{Effect, goes, completes, refuses, effectOf, effect, Did}
-use Rattle.runner.specs.Returned.{refusedWith, returned, answerOf, EndsAs}
+use Rattle.runner.specs.Returned.{refusedWith, returned, answerOf, EndsIn}
 use Rattle.runner.specs.declared.Value.{Value}
 use Rattle.runner.specs.declared.Outcome.the-variants.{Completed, Refused}
 
@@ -47,7 +49,10 @@ follow-by m go st (leaves cells rs) true q = rw (q, onward) refl
 follow-by m go st (leaves cells rs) false q = rw (q, onward) refl
 follow-by m go st (faults n) b q = refl
 
--- what the code holds: its own variables v, buffer b, cells a, height h, offset k, the end p of what is written, and n
+never : {A : Type 0} {x k n : ℕ} {a : Value} {i w : ℕ} → Refused x k n ≡ Completed a i w → A
+never q = absurd (let z : _≡_ {A = ℕ} 0 1 = cc in omega arith)
+
+-- what the code holds: the variables v, buffer b, cells a, height h, offset k, the end p of what is written, and n
 -- steps
 pub record Loop (m : Fed) (b₀ : List ℕ) (u : ℕ) (g : List ℕ) (max : ℕ) (v b : List ℕ) (a : List ℕ) (h k p n : ℕ) : Type 0 where
   pub records : List Record
@@ -58,6 +63,7 @@ pub record Loop (m : Fed) (b₀ : List ℕ) (u : ℕ) (g : List ℕ) (max : ℕ)
   pub laid : b ≡ writtenAt b₀ u (encodeAll records)
   pub within : n ≤ max
   pub long : length a ≡ 64
+  pub unset : SetsNothing (m .expression) → v ≡ g
 
 module _ {m : Fed} {c₀ g₀ l₀ : ℕ} (acc : Accepted (m .expression) c₀ g₀ l₀) where
   pub loop-start : (b₀ : List ℕ) (u : ℕ) (g : List ℕ) (max : ℕ) {a : List ℕ} {h : ℕ} → u ≤ length b₀ → h ≡ 0 → length a ≡ 64
@@ -72,6 +78,7 @@ module _ {m : Fed} {c₀ g₀ l₀ : ℕ} (acc : Accepted (m .expression) c₀ g
     laid = sym (written-nothing b₀ u);
     within = omega arith;
     long = l;
+    unset = λ z. refl;
   })
 
 module _ {m : Fed} {b₀ : List ℕ} {u : ℕ} {g : List ℕ} {max : ℕ} {v b : List ℕ} {a : List ℕ} {h k p n : ℕ} (l : Loop m b₀ u g max v b a h k p n) where
@@ -91,6 +98,21 @@ module _ {m : Fed} {b₀ : List ℕ} {u : ℕ} {g : List ℕ} {max : ℕ} {v b :
 
   followed : n < max → {e : Effect} → effect m k (held a h) v (length b - p) ≡ e → moves m (length b₀ - u) max (begin g) ≡ follow (moves m (length b₀ - u) (max - (n + 1))) (state k (held a h) v (l .records) n) e
   followed lt q = move lt ∙ ap (follow (moves m (length b₀ - u) (max - (n + 1))) (state k (held a h) v (l .records) n)) q
+
+  -- where no instruction is a setv, what goes on has the same variables
+  unset-at : SetsNothing (m .expression) → variablesAfter (m .expression) k (held a h) v ≡ v
+  unfolding variablesAfter classOf opcodes
+  unset-at z = rw (ne-eqb (getD (m .expression) k 0) 0x2d (λ p. z k (walk-last (l .walk .walk)) (ap classOf p))) refl
+
+  goes-unset : SetsNothing (m .expression) → (d : Done) (z : Bool) → eqb (kindAt (m .expression) k) kind-end ≡ z
+      → {i : ℕ} {t w : List ℕ} {rs : List Record} → effectOf (m .expression) k (held a h) v d ≡ goes i t w rs → w ≡ v
+  goes-unset y (leaves cells qs) true z q = absurd (let x : _≡_ {A = ℕ} 0 1 = cc (rw z at q) in omega arith)
+  goes-unset y (leaves cells qs) false z {i} {t} {w} {rs} q =
+      let o : goes (offsetAfter (m .expression) k (held a h)) (stackAfter (m .expression) k (held a h) cells)
+      (variablesAfter (m .expression) k (held a h) v) qs ≡ goes i t w rs = rw z at q in
+      let ow : variablesAfter (m .expression) k (held a h) v ≡ w = cc in
+      sym ow ∙ unset-at y
+  goes-unset y (faults x) z e q = absurd (let x : _≡_ {A = ℕ} 0 1 = cc in omega arith)
 
 -- the steps done, where so many of the allowance are left
 module _ {max left : ℕ} (some : 0 < left) (w : left ≤ max) where
@@ -165,6 +187,7 @@ module _ {m : Fed} {c₀ g₀ l₀ : ℕ} (acc : Accepted (m .expression) c₀ g
     laid = d .buffer ∙ rw (l .laid, l .put, written-more) (ap (writtenAt b₀ u) (sym (encode-all-append (l .records) rs)));
     within = omega arith;
     long = d .long;
+    unset = λ z. d .variables ∙ goes-unset l z (done m k (held a h) v (length b - p)) (eqb (kindAt (m .expression) k) kind-end) refl q ∙ l .unset z;
   }
   turn-by completes q d o = absurd (omega (arith, d .stop))
   turn-by (refuses x) q d o = absurd (omega (arith, d .stop, refuses-high acc l (done m k (held a h) v (length b - p)) refl (eqb (kindAt (m .expression) k) kind-end) refl q))
@@ -181,7 +204,7 @@ module _ {m : Fed} {c₀ g₀ l₀ : ℕ} (acc : Accepted (m .expression) c₀ g
   room-by (refuses x) q d o = absurd (omega (arith, d .stop, refuses-high acc l (done m k (held a h) v (length b - p)) refl (eqb (kindAt (m .expression) k) kind-end) refl q))
 
   ends-by : (e : Effect) → effect m k (held a h) v (length b - p) ≡ e → Did k (held a h) v b p e r c v′ b′ → r .stop ≡ 1 → (t : ℕ) {x : List ℕ} {z : Value} → x ≡ writtenAt b′ (r .put) (encodeTrailer t (r .put - u))
-      → answerOf z ≡ answer (held c (r .height)) → EndsAs t g b₀ u (moves m (length b₀ - u) max (begin g)) (Completed z (n + 1) (r .put + trailerSize)) v′ x
+      → answerOf z ≡ answer (held c (r .height)) → EndsIn (m .expression) t g b₀ u (moves m (length b₀ - u) max (begin g)) (Completed z (n + 1) (r .put + trailerSize)) v′ x
   unfolding effect encodeAll leftBytes returned usedOf variablesOf bufferOf
   ends-by completes q d one t {x} {z} hx hz =
       let o : r .put ≡ p = omega (arith, d .put) in
@@ -192,22 +215,24 @@ module _ {m : Fed} {c₀ g₀ l₀ : ℕ} (acc : Accepted (m .expression) c₀ g
       let a : answerOf z ≡ answer (held a h) = hz ∙ ap answer (d .stack) in
       rw (followed l lt q, o) (record {
         answer = cc;
-        variables = d .variables;
+        set = λ a n w e. d .variables;
+        unset = λ e. d .variables ∙ l .unset e;
         buffer = hx ∙ rw (o, d .buffer, written-nothing, y, l .laid, l .put, written-more) refl;
       })
   ends-by (goes i t′ w rs) q d o t hx hz = absurd (omega (arith, d .stop))
   ends-by (refuses x) q d o t hx hz = absurd (omega (arith, d .stop, refuses-high acc l (done m k (held a h) v (length b - p)) refl (eqb (kindAt (m .expression) k) kind-end) refl q))
 
   halts-by : (e : Effect) → effect m k (held a h) v (length b - p) ≡ e → Did k (held a h) v b p e r c v′ b′ → r .stop ≢ 0 → r .stop ≢ 1 → (t : ℕ)
-      → {w : List ℕ} → w ≡ g → EndsAs t g b₀ u (moves m (length b₀ - u) max (begin g)) (Refused (r .stop) (r .at) n) w b′
+      → EndsIn (m .expression) t g b₀ u (moves m (length b₀ - u) max (begin g)) (Refused (r .stop) (r .at) n) v′ b′
   unfolding effect encodeAll leftBytes returned usedOf variablesOf bufferOf
-  halts-by (refuses x) q d h0 h1 t kept = rw (followed l lt q, d .at) (record {
+  halts-by (refuses x) q d h0 h1 t = rw (followed l lt q, d .at) (record {
     answer = ap (λ (y : ℕ). refusedWith y k n) (d .stop);
-    variables = kept;
+    set = λ a n w e. never e;
+    unset = λ e. d .variables ∙ l .unset e;
     buffer = d .buffer ∙ written-nothing b p ∙ l .laid;
   })
-  halts-by (goes i t′ w rs) q d h0 h1 t kept = absurd (h0 (d .stop))
-  halts-by completes q d h0 h1 t kept = absurd (h1 (d .stop))
+  halts-by (goes i t′ w rs) q d h0 h1 t = absurd (h0 (d .stop))
+  halts-by completes q d h0 h1 t = absurd (h1 (d .stop))
 
   module _ (d : Did k (held a h) v b p (effect m k (held a h) v (length b - p)) r c v′ b′) where
     pub turn : r .stop ≡ 0 → Loop m b₀ u g max v′ b′ c (r .height) (r .at) (r .put) (n + 1)
@@ -217,18 +242,17 @@ module _ {m : Fed} {c₀ g₀ l₀ : ℕ} (acc : Accepted (m .expression) c₀ g
     room-left = room-by (effect m k (held a h) v (length b - p)) refl d
 
     pub ends : r .stop ≡ 1 → (t : ℕ) {x : List ℕ} {z : Value} → x ≡ writtenAt b′ (r .put) (encodeTrailer t (r .put - u)) → answerOf z ≡ answer (held c (r .height))
-        → EndsAs t g b₀ u (moves m (length b₀ - u) max (begin g)) (Completed z (n + 1) (r .put + trailerSize)) v′ x
+        → EndsIn (m .expression) t g b₀ u (moves m (length b₀ - u) max (begin g)) (Completed z (n + 1) (r .put + trailerSize)) v′ x
     ends = ends-by (effect m k (held a h) v (length b - p)) refl d
 
-    -- where the lent variables w are those given
-    pub halts : r .stop ≢ 0 → r .stop ≢ 1 → (t : ℕ) → {w : List ℕ} → w ≡ g → EndsAs t g b₀ u (moves m (length b₀ - u) max (begin g)) (Refused (r .stop) (r .at) n) w b′
+    pub halts : r .stop ≢ 0 → r .stop ≢ 1 → (t : ℕ) → EndsIn (m .expression) t g b₀ u (moves m (length b₀ - u) max (begin g)) (Refused (r .stop) (r .at) n) v′ b′
     halts = halts-by (effect m k (held a h) v (length b - p)) refl d
 
 -- ---- the allowance is spent
 module _ {m : Fed} {b₀ : List ℕ} {u : ℕ} {g : List ℕ} {max : ℕ} {v b : List ℕ} {a : List ℕ} {h k p n : ℕ} (l : Loop m b₀ u g max v b a h k p n) where
-  pub spent : max ≤ n → (t : ℕ) → {w : List ℕ} → w ≡ g → EndsAs t g b₀ u (moves m (length b₀ - u) max (begin g)) (Refused 16 k n) w b
+  pub spent : max ≤ n → (t : ℕ) → EndsIn (m .expression) t g b₀ u (moves m (length b₀ - u) max (begin g)) (Refused 16 k n) v b
   unfolding moves leftBytes returned usedOf variablesOf bufferOf
-  spent h t kept =
+  spent h t =
       let e : max - n ≡ 0 = omega arith in
       let o = rw e at (l .same) in
-      rw o (record { answer = refl; variables = kept; buffer = l .laid })
+      rw o (record { answer = refl; set = λ a n w e. never e; unset = l .unset; buffer = l .laid })

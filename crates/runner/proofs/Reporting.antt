@@ -31,7 +31,7 @@ unfolding returned numberOf
 number-by t u (completed x k v rs) p = absurd (let z : _≡_ {A = ℕ} 0 1 = cc in omega arith)
 number-by t u (stopped x k s rs) p = cc
 
-refused-by : (t : ℕ) (v b : List ℕ) (u : ℕ) {y j n : ℕ} (o : Ended) → returnedBy (Refused y j n) ≡ returned t u o
+pub refused-by : (t : ℕ) (v b : List ℕ) (u : ℕ) {y j n : ℕ} (o : Ended) → returnedBy (Refused y j n) ≡ returned t u o
     → (variablesOf v o ≡ v) × (bufferOf t b u o ≡ writtenAt b u (encodeAll (recordsOf o)))
 unfolding returned variablesOf bufferOf leftBytes recordsOf
 refused-by t v b u (completed x k w rs) p = absurd (let z : _≡_ {A = ℕ} 0 1 = cc in omega arith)

@@ -5,6 +5,7 @@ use mathlib.Core.List.{List}
 use mathlib.Core.Path.{_≡_}
 use Prim.Native.Nat.{ℕ}
 use Rattle.verdict.specs.Acceptance.{Accepted}
+use Rattle.verdict.specs.Verdict.{SetsNothing}
 use Rattle.machine.specs.Fed.{Fed}
 use Rattle.machine.specs.Machine.{Answer, no-value, top, top-and-beneath, Ended, completed, stopped}
 use Rattle.machine.specs.Run.{ended, variablesOf, usedOf, bufferOf}
@@ -39,6 +40,14 @@ returnedBy (Refused r k n) = refusedWith r k n
 abbrev pub stepsReported : Outcome → ℕ
 stepsReported (Completed a n u) = n
 stepsReported (Refused r k n) = n
+
+-- the run ended as o, an end of the machine, on the variables themselves: where it is refused they are as given only if
+-- no instruction of the expression e is a setv
+pub record EndsIn (e : List ℕ) (t : ℕ) (v b : List ℕ) (u : ℕ) (o : Ended) (r : Outcome) (v′ b′ : List ℕ) : Type 0 where
+  pub answer : returnedBy r ≡ returned t u o
+  pub set : (a : Value) (n w : ℕ) → r ≡ Completed a n w → v′ ≡ variablesOf v o
+  pub unset : SetsNothing e → v′ ≡ v
+  pub buffer : b′ ≡ bufferOf t b u o
 
 -- the run ended as o, an end of the machine: v, b and u are given, v′ and b′ are what the run leaves
 pub record EndsAs (t : ℕ) (v b : List ℕ) (u : ℕ) (o : Ended) (r : Outcome) (v′ b′ : List ℕ) : Type 0 where

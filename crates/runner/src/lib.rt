@@ -1,4 +1,5 @@
 // Runs: the loop that follows document 01's machine, and the public entries.
+ghost use mathlib.Core.Bool.{true, false};
 ghost use mathlib.Core.List.{[]};
 ghost use mathlib.Core.Path.{_≡_};
 ghost use Prim.Native.Nat.{_+_, _-_, _≤_, _<_};
@@ -7,11 +8,12 @@ ghost use Rattle.encoding.specs.Written.{writtenAt};
 ghost use Rattle.isa.specs.Held.{held};
 ghost use Rattle.isa.specs.Rows.{table};
 ghost use Rattle.memory.specs.Spans.{spansRefusal};
+ghost use Rattle.verdict.specs.Verdict.{SetsNothing};
 ghost use Rattle.frames.specs.Trailer.{trailerSize, encodeTrailer};
 ghost use Rattle.machine.specs.Fed.{fed, begin};
 ghost use Rattle.machine.specs.Machine.{answer, moves};
 ghost use Rattle.machine.specs.Run.{inputRefusal, defaultAllowance};
-ghost use Rattle.runner.specs.Returned.{answerOf, IsAccepted, EndsAs, Ran};
+ghost use Rattle.runner.specs.Returned.{answerOf, IsAccepted, EndsIn, EndsAs, Ran};
 use isa::Stack;
 use verdict::Answer;
 
@@ -54,10 +56,85 @@ fn close_frame(buffer: &mut [u8], put: usize, tracepoint: u16, size: usize)
     frames::trailer::append_trailer(buffer, put, tracepoint, size as u32);
 }
 
-// A run of an accepted expression on inputs that 12 to 15 allow. It works on a copy of the variables, which is written
-// back on completion alone. What is left of the allowance is counted down, so that one machine instruction both counts
-// and tests. Where a step stops, its answer has the offset and the end of what is written as they were: so they are
-// taken before `stop` is tested.
+// What a run has of its own: its stack, and a copy of the variables where it may set some. One value, so that both are
+// cleared at once.
+pub struct Own {
+    pub stack: Stack,
+    pub kept: [u64; 64],
+}
+
+// Copies the variables where that is wanted.
+fn copy_if(to: &mut [u64; 64], from: &[u64; 64], wanted: bool)
+    ensures { λ _. ⌜ (wanted ≡ true → now (to .exit) ≡ now (from .entry)) × (wanted ≡ false → now (to .exit) ≡ now (to .entry)) ⌝ }
+{
+    if wanted {
+        *to = *from;
+    }
+}
+
+// A run of an accepted expression on inputs that 12 to 15 allow, on the variables themselves. What is left of the
+// allowance is counted down, so that one machine instruction both counts and tests. Where a step stops, its answer has
+// the offset and the end of what is written as they were: so they are taken before `stop` is tested.
+fn follow<'a>(
+    rows: &[[u8; 4]; 53],
+    code: &[u8],
+    registers: &[u64],
+    image_first: u64,
+    image: &'a [u8],
+    work_first: u64,
+    work: &'a [u8],
+    cells: &mut [u64; Stack::DEPTH],
+    variables: &mut [u64; 64],
+    buffer: &mut [u8],
+    used: usize,
+    tracepoint: u16,
+    allowance: u64,
+) -> Outcome
+    requires { ⌜ (now rows ≡ table) × IsAccepted (now code) × (spansRefusal «image_first» (now image) «work_first» (now work) ≡ 0) × (used ≤ length (now buffer)) × (length (now buffer) ≤ 65536) × (length (now cells) ≡ 64) ⌝ }
+    ensures { λ r. ⌜ EndsIn (now (code .entry)) tracepoint (now (variables .entry)) (now (buffer .entry)) used (moves (fed (now (code .entry)) (now (registers .entry)) «image_first» (now (image .entry)) «work_first» (now (work .entry))) (length (now (buffer .entry)) - used) allowance (begin (now (variables .entry)))) r (now (variables .exit)) (now (buffer .exit)) ⌝ }
+{
+    let mut height = 0;
+    let mut at = 0;
+    let mut put = used;
+    let mut left = allowance;
+    while 0 < left {
+        let next = stepping::step(
+            rows,
+            code,
+            registers,
+            image_first,
+            image,
+            work_first,
+            work,
+            cells,
+            variables,
+            buffer,
+            at,
+            height,
+            put,
+        );
+        at = next.at;
+        height = next.height;
+        put = next.put;
+        if next.stop != 0 {
+            let steps = allowance - left;
+            let counted = steps + 1;
+            if next.stop == 1 {
+                let value = value_of(cells, height);
+                close_frame(buffer, put, tracepoint, put - used);
+                let length = put + frames::trailer::TRAILER_SIZE;
+                return Outcome::Completed(value, counted, length);
+            }
+            return Outcome::Refused(next.stop, at, steps);
+        }
+        left -= 1;
+    }
+    let steps = allowance - left;
+    Outcome::Refused(16, at, steps)
+}
+
+// The same, which leaves the variables as given where it is refused. Where no variable is set, they are as given: so
+// they are neither copied nor put back.
 fn run_accepted<'a>(
     rows: &[[u8; 4]; 53],
     code: &[u8],
@@ -71,51 +148,38 @@ fn run_accepted<'a>(
     used: usize,
     tracepoint: u16,
     allowance: u64,
+    sets: bool,
 ) -> Outcome
-    requires { ⌜ (now rows ≡ table) × IsAccepted (now code) × (spansRefusal «image_first» (now image) «work_first» (now work) ≡ 0) × (used ≤ length (now buffer)) × (length (now buffer) ≤ 65536) ⌝ }
+    requires { ⌜ (now rows ≡ table) × IsAccepted (now code) × (spansRefusal «image_first» (now image) «work_first» (now work) ≡ 0) × (used ≤ length (now buffer)) × (length (now buffer) ≤ 65536) × (sets ≡ false → SetsNothing (now code)) ⌝ }
     ensures { λ r. ⌜ EndsAs tracepoint (now (variables .entry)) (now (buffer .entry)) used (moves (fed (now (code .entry)) (now (registers .entry)) «image_first» (now (image .entry)) «work_first» (now (work .entry))) (length (now (buffer .entry)) - used) allowance (begin (now (variables .entry)))) r (now (variables .exit)) (now (buffer .exit)) ⌝ }
 {
-    let mut own = *variables;
-    let mut stack = Stack::empty();
-    let mut height = stack.height;
-    let mut at = 0;
-    let mut put = used;
-    let mut left = allowance;
-    while 0 < left {
-        let next = stepping::step(
-            rows,
-            code,
-            registers,
-            image_first,
-            image,
-            work_first,
-            work,
-            &mut stack.cells,
-            &mut own,
-            buffer,
-            at,
-            height,
-            put,
-        );
-        at = next.at;
-        height = next.height;
-        put = next.put;
-        if next.stop != 0 {
-            let steps = allowance - left;
-            let counted = steps + 1;
-            if next.stop == 1 {
-                let value = value_of(&stack.cells, height);
-                close_frame(buffer, put, tracepoint, put - used);
-                let length = put + frames::trailer::TRAILER_SIZE;
-                *variables = own;
-                return Outcome::Completed(value, counted, length);
-            }
-            return Outcome::Refused(next.stop, at, steps);
+    let mut own = Own {
+        stack: Stack::empty(),
+        kept: [0u64; 64],
+    };
+    copy_if(&mut own.kept, variables, sets);
+    let outcome = follow(
+        rows,
+        code,
+        registers,
+        image_first,
+        image,
+        work_first,
+        work,
+        &mut own.stack.cells,
+        variables,
+        buffer,
+        used,
+        tracepoint,
+        allowance,
+    );
+    match outcome {
+        Outcome::Completed(_, _, _) => outcome,
+        Outcome::Refused(_, _, _) => {
+            copy_if(variables, &own.kept, sets);
+            outcome
         }
-        left -= 1;
     }
-    let steps = allowance - left;
-    Outcome::Refused(16, at, steps)
 }
 
 // 12 to 15, tried in that order; 0 where none is met.
@@ -173,7 +237,9 @@ pub fn run<'a>(
         variables,
         tracepoint,
     );
-    match verifier::verify(code) {
+    let noted = verifier::verify_noting(code);
+    let answer = noted.answer;
+    match answer {
         Answer::Refused(number, offset) => Outcome::Refused(number, offset, 0),
         Answer::Accepted(count, greatest, longest) => {
             let refusal = inputs_refusal(
@@ -201,6 +267,7 @@ pub fn run<'a>(
                 used,
                 tracepoint,
                 allowance,
+                noted.sets,
             )
         }
     }

@@ -14,14 +14,14 @@ use Rattle.runner.proofs.run.Tie as tie
 typed-requires : tie.Need-typed-requires
 typed-requires c κs = search needs
 
-verify-requires : tie.Need-verify-requires
-verify-requires c κs = search needs
+verify-noting-requires : tie.Need-verify-noting-requires
+verify-noting-requires c κs = search needs
 
-enum-known-number : tie.Need-enum-known-number
-enum-known-number c = search needs
+enum-known-answer : tie.Need-enum-known-answer
+enum-known-answer c = search needs
 
-enum-known-count : tie.Need-enum-known-count
-enum-known-count c = search needs
+enum-known-answer-2 : tie.Need-enum-known-answer-2
+enum-known-answer-2 c = search needs
 
 inputs-refusal-requires : tie.Need-inputs-refusal-requires
 inputs-refusal-requires c κs = search needs
@@ -33,7 +33,7 @@ returns : tie.Need-returns
 unfolding inputRefusal
 returns c =
     let v = c .before .before .before .before .before .before in
-    enter-inputs (v .before .typed .ensures) _ _ _ (sym (v .verify .ensures) ∙ ap verdictOf (c .before .before .before .before .count .given .1)) (c .before .inputs-refusal .ensures) (c .if1 .taken)
+    enter-inputs (v .before .typed .ensures) _ _ _ (sym (v .verify-noting .ensures .0) ∙ ap verdictOf (c .before .before .before .before .answer2 .given .1)) (c .before .inputs-refusal .ensures) (c .if1 .taken)
 
 run-accepted-requires : tie.Need-run-accepted-requires
 unfolding inputRefusal table rowsFrom classOf opcodes
@@ -42,10 +42,10 @@ run-accepted-requires c κs =
     let s = v .before .before .before .before .before .before .before .before in
     let z = inputs-fit (fed (now (s .args .code)) (now (s .args .registers)) (s .args .image-first) (now (s .args .image)) (s .args .work-first) (now (s .args .work)))
     (now (s .args .buffer)) (s .args .used) (sym (c .before .before .before .before .inputs-refusal .ensures) ∙ c .before .before .before .if1 .left) in
-    (refl, is-accepted (sym (v .verify .ensures) ∙ ap verdictOf (c .before .before .before .before .before .before .before .count .given .1)), z .0, z .1, z .2)
+    (refl, is-accepted (sym (v .verify-noting .ensures .0) ∙ ap verdictOf (c .before .before .before .before .before .before .before .answer2 .given .1)), z .0, z .1, z .2, v .verify-noting .ensures .1)
 
 returns-2 : tie.Need-returns-2
-returns-2 c = let v = c .before .before .before in enter-refused (v .before .typed .ensures) _ _ _ (sym (v .verify .ensures) ∙ ap verdictOf (c .before .number .given .1))
+returns-2 c = let v = c .before .before .before in enter-refused (v .before .typed .ensures) _ _ _ (sym (v .verify-noting .ensures .0) ∙ ap verdictOf (c .before .answer .given .1))
 
 same-length-2 : tie.Need-same-length-2
 same-length-2 c = search needs
@@ -55,16 +55,16 @@ unfolding inputRefusal
 returns-3 c =
     let i = c .before .before .before .before .before .before in
     let v = i .before .before .before .before .before .before in
-    enter-loop (v .before .typed .ensures) _ _ _ (sym (v .verify .ensures) ∙ ap verdictOf (i .before .before .before .before .count .given .1)) (i .before .inputs-refusal .ensures) (i .if1 .left) (c .before .before .run-accepted .ensures)
+    enter-loop (v .before .typed .ensures) _ _ _ (sym (v .verify-noting .ensures .0) ∙ ap verdictOf (i .before .before .before .before .answer2 .given .1)) (i .before .inputs-refusal .ensures) (i .if1 .left) (c .before .before .run-accepted .ensures)
 
 pub run-spec : {M : Type 1} → statement M
 run-spec =
     tie.close
     (tie.spec
     typed-requires
-    verify-requires
-    enum-known-number
-    enum-known-count
+    verify-noting-requires
+    enum-known-answer
+    enum-known-answer-2
     inputs-refusal-requires
     same-length
     returns

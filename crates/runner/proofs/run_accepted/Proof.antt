@@ -1,103 +1,54 @@
-use borrow.Author.Needs.{needs}
-use mathlib.Core.Path.{_≡_, refl, ap, _∙_}
-use Prim.Native.Nat.{_-_, _≤_}
-use native.Mathlib.Omega.{arith}
+use mathlib.Core.Path.{refl, ap, _∙_}
 use lib.ListN.{length}
-use Rattle.machine.specs.Fed.{fed}
-use Rattle.runner.proofs.Looping.{Loop, loop-start, as-long, place, still-left, one-less, turn, room-left, ends, halts, spent}
+use Rattle.runner.proofs.Settling.{settled-completed, settled-refused}
+use borrow.Author.Needs.{needs}
 use Rattle.runner.proofs.run_accepted.Statement.{statement}
 use Rattle.runner.proofs.run_accepted.Tie as tie
 
-abbrev Inv-loop : tie.InvT-loop
-Inv-loop rows code registers image-first image work-first work variables₀ buffer₀ used tracepoint allowance own₀ stack₀ height₀ at₀ put₀ left₀ variables buffer own stack height at put left = (left ≤ allowance) × (variables ≡ variables₀) × Loop (fed code registers image-first image work-first work) buffer₀ used variables₀ allowance own buffer (stack .cells) height at put (allowance - left)
-
-abbrev μ-loop : tie.MeasureT-loop
-μ-loop rows code registers image-first image work-first work variables₀ buffer₀ used tracepoint allowance own₀ stack₀ height₀ at₀ put₀ left₀ variables buffer own stack height at put left = left
-
-empty-requires : tie.Need-empty-requires Inv-loop μ-loop
+empty-requires : tie.Need-empty-requires
 empty-requires c κs = search needs
 
-loop-holds : tie.Need-loop-holds Inv-loop μ-loop
-loop-holds c = let s = c .before .before .before .before .before .before .before in (omega arith, refl, loop-start (s .pre .1 .accepts) _ _ _ _ (s .pre .3) (c .empty .ensures .0) (ap length (c .empty .ensures .1)))
+copy-if-requires : tie.Need-copy-if-requires
+copy-if-requires c κs = search needs
 
-step-requires : tie.Need-step-requires Inv-loop μ-loop
-step-requires c κs = let q = c .before .before .before .before in let s = q .before .before .before .before .before .before .before .before in (place (s .pre .1 .accepts) (q .loop .inv .2) (s .pre .0), (omega (arith, q .loop .inv .2 .room, as-long (q .loop .inv .2)), s .pre .2))
+follow-requires : tie.Need-follow-requires
+follow-requires c κs = search needs
 
-sub-steps : tie.Need-sub-steps Inv-loop μ-loop
-sub-steps c = omega (arith, c .before .before .before .before .before .before .before .before .before .loop .inv .0)
+enum-told : tie.Need-enum-told
+enum-told c = search needs
 
-add-counted : tie.Need-add-counted Inv-loop μ-loop
-add-counted c =
-    let t = c .before .before .before .before in
-    omega (arith, t .before .before .before .before .before .before .before .before .before .before .before .before .before .fits .allowance, t .before .before .before .before .loop-test .taken, t .before .before .before .before .before .loop .inv .0)
+enum-told-2 : tie.Need-enum-told-2
+enum-told-2 c = search needs
 
-value-of-requires : tie.Need-value-of-requires Inv-loop μ-loop
-value-of-requires c κs = let t = c .before .before .before .before .before .before .before .before in let s = t .before .before .before .before .before .before .before .before .before .before .before .before .before in room-left (s .pre .1 .accepts) (t .before .before .before .before .before .loop .inv .2) (still-left (t .before .before .before .before .loop-test .taken) (t .before .before .before .before .before .loop .inv .0)) (t .step .ensures) (c .before .before .if2 .taken) .3
+copy-if-requires-2 : tie.Need-copy-if-requires-2
+copy-if-requires-2 c κs = search needs
 
-sub-close-frame : tie.Need-sub-close-frame Inv-loop μ-loop
-sub-close-frame c = let t = c .before .before .before .before .before .before .before .before .before .before in let s = t .before .before .before .before .before .before .before .before .before .before .before .before .before in room-left (s .pre .1 .accepts) (t .before .before .before .before .before .loop .inv .2) (still-left (t .before .before .before .before .loop-test .taken) (t .before .before .before .before .before .loop .inv .0)) (t .step .ensures) (c .before .before .before .before .if2 .taken) .0
+same-length : tie.Need-same-length
+same-length c = search needs
 
-close-frame-requires : tie.Need-close-frame-requires Inv-loop μ-loop
-close-frame-requires c κs = let t = c .before .before .before .before .before .before .before .before .before .before in let s = t .before .before .before .before .before .before .before .before .before .before .before .before .before in let e = room-left (s .pre .1 .accepts) (t .before .before .before .before .before .loop .inv .2) (still-left (t .before .before .before .before .loop-test .taken) (t .before .before .before .before .before .loop .inv .0)) (t .step .ensures) (c .before .before .before .before .if2 .taken) in (e .1, omega (arith, e, s .pre .4))
+returns : tie.Need-returns
+returns c = settled-completed (c .before .before .before .before .follow .ensures) _ (c .enum-told .given .1)
 
-add-length : tie.Need-add-length Inv-loop μ-loop
-add-length c = let t = c .before .before .before .before .before .before .before .before .before .before .before .before .before in let s = t .before .before .before .before .before .before .before .before .before .before .before .before .before in let e = room-left (s .pre .1 .accepts) (t .before .before .before .before .before .loop .inv .2) (still-left (t .before .before .before .before .loop-test .taken) (t .before .before .before .before .before .loop .inv .0)) (t .step .ensures) (c .before .before .before .before .before .before .before .if2 .taken) in omega (arith, e, s .pre .4)
+same-length-2 : tie.Need-same-length-2
+same-length-2 c = search needs
 
-same-length : tie.Need-same-length Inv-loop μ-loop
-same-length c = let t = c .before .before .before .before .before .before .before .before .before .before .before .before .before in let s = t .before .before .before .before .before .before .before .before .before .before .before .before .before in c .before .before .close-frame .kept .0 ∙ room-left (s .pre .1 .accepts) (t .before .before .before .before .before .loop .inv .2) (still-left (t .before .before .before .before .loop-test .taken) (t .before .before .before .before .before .loop .inv .0)) (t .step .ensures) (c .before .before .before .before .before .before .before .if2 .taken) .2
-
-returns : tie.Need-returns Inv-loop μ-loop
-returns c = let t = c .before .before .before .before .before .before .before .before .before .before .before .before .before in let s = t .before .before .before .before .before .before .before .before .before .before .before .before .before in ends (s .pre .1 .accepts) (t .before .before .before .before .before .loop .inv .2) (still-left (t .before .before .before .before .loop-test .taken) (t .before .before .before .before .before .loop .inv .0)) (t .step .ensures) (c .before .before .before .before .before .before .before .if2 .taken) (s .args .tracepoint) (c .before .before .close-frame .ensures) (c .before .before .before .before .value-of .ensures)
-
-same-length-2 : tie.Need-same-length-2 Inv-loop μ-loop
-same-length-2 c = let t = c .before .before .before .before .before .before in t .step .kept .1 .1 .1 .1 .1 .1 .1 .1 .1 .0 ∙ as-long (t .before .before .before .before .before .loop .inv .2)
-
-returns-2 : tie.Need-returns-2 Inv-loop μ-loop
-returns-2 c = let t = c .before .before .before .before .before .before in let s = t .before .before .before .before .before .before .before .before .before .before .before .before .before in halts (s .pre .1 .accepts) (t .before .before .before .before .before .loop .inv .2) (still-left (t .before .before .before .before .loop-test .taken) (t .before .before .before .before .before .loop .inv .0)) (t .step .ensures) (c .before .before .if1 .taken) (c .if2 .left) (s .args .tracepoint) (t .before .before .before .before .before .loop .inv .1)
-
-sub-left : tie.Need-sub-left Inv-loop μ-loop
-sub-left c = search needs
-
-loop-less : tie.Need-loop-less Inv-loop μ-loop
-loop-less c = omega arith
-
-loop-again : tie.Need-loop-again Inv-loop μ-loop
-loop-again c =
-    let t = c .before .before .before .before in let s = t .before .before .before .before .before .before .before .before .before .before .before .before .before in
-    let some = t .before .before .before .before .loop-test .taken in let i = t .before .before .before .before .before .loop .inv in
-    (omega (arith, i .0), i .1, rw (← (one-less some (i .0))) (turn (s .pre .1 .accepts) (i .2) (still-left some (i .0)) (t .step .ensures) (c .if1 .left)))
-
-sub-steps-2 : tie.Need-sub-steps-2 Inv-loop μ-loop
-sub-steps-2 c = omega (arith, c .before .loop .inv .0)
-
-same-length-3 : tie.Need-same-length-3 Inv-loop μ-loop
-same-length-3 c = as-long (c .before .loop .inv .2)
-
-returns-3 : tie.Need-returns-3 Inv-loop μ-loop
-returns-3 c = let s = c .before .before .before .before .before .before .before .before .before in spent (c .before .loop .inv .2) (omega arith) (s .args .tracepoint) (c .before .loop .inv .1)
+returns-2 : tie.Need-returns-2
+returns-2 c =
+    let f = c .before .before .before .before .before .before .before .before in let s = f .before .before .before .before .before .before .before .before .before .before .before .before .before in
+    settled-refused (f .follow .ensures) (c .before .before .before .before .enum-told2 .given .1) (s .args .sets) (s .pre .5)
+    (f .before .before .before .before .copy-if .ensures .0) (c .copy-if2 .ensures)
 
 pub run-accepted-spec : {M : Type 1} → statement M
 run-accepted-spec =
     tie.close
     (tie.spec
-    Inv-loop
-    μ-loop
     empty-requires
-    loop-holds
-    step-requires
-    sub-steps
-    add-counted
-    value-of-requires
-    sub-close-frame
-    close-frame-requires
-    add-length
+    copy-if-requires
+    follow-requires
+    enum-told
+    enum-told-2
+    copy-if-requires-2
     same-length
     returns
     same-length-2
-    returns-2
-    sub-left
-    loop-less
-    loop-again
-    sub-steps-2
-    same-length-3
-    returns-3)
+    returns-2)
