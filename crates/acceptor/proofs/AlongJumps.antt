@@ -288,17 +288,17 @@ module _ {e : List ℕ} {s : State} {hs ds : List ℕ} (a : Joined e s hs ds) wh
   quiet-past p = quiet-next e (s .at) (a .stands .start) (a .quiet) (λ z. (z, λ y. p (ap kind y)))
 
   -- an instruction that the next start follows
-  pub turned-on : {w : Effect} → GoesOn e (s .at) (s .height) w → (x : ℕ) → x ≡ max (s .greatest) (w .height) → {q : Bool} → (q ≡ false → (s .sets ≡ false) × (classAt e (s .at) ≢ setv))
+  pub turned-on : {w : Effect} → GoesOn e (s .at) (s .height) (s .greatest) w → {q : Bool} → (q ≡ false → (s .sets ≡ false) × (classAt e (s .at) ≢ setv))
       → Turns e (s .at)
-      (record { stop = stop-on; at = w .at; height = w .height; distance = s .distance + 1; count = s .count + 1; greatest = x; longest = s .longest; noted = s .noted; met = s .met; sets = q })
+      (record { stop = stop-on; at = w .at; height = w .height; distance = s .distance + 1; count = s .count + 1; greatest = w .greatest; longest = s .longest; noted = s .noted; met = s .met; sets = q })
       hs ds
-  turned-on {w} y x p q =
+  turned-on {w} y q =
       let k : ℕ = s .at in
       let st = a .stands in
       record {
         later = λ _. omega (arith, y .at-is);
         concluded = not-concluded (omega arith);
-        on = λ _ i. rw (p, y .height-is, y .at-is) (let j : next e k < length e = omega (arith, y .at-is) in record {
+        on = λ _ i. rw (y .greatest-is, y .height-is, y .at-is) (let j : next e k < length e = omega (arith, y .at-is) in record {
           stands = stands-next st (y .clear (omega arith)) j (λ u. (u, no-jump-low e k (y .straight))) (omega arith) (omega (arith, st .lower, y .low, y .height-is)) (omega (arith, st .few-told))
               (st .heights-long) (st .distances-long) (λ m. omega (arith, st .low m));
           near = omega (arith, a .near);

@@ -73,7 +73,7 @@ module _ {e : List ℕ} {k h n g : ℕ} {x : Bool} (s : Following e k h n g x) w
   flow-only hs ds u low t =
       turned-step (incoming-flow (getD hs k 0) (getD ds k 0) h n (u .no-height k (s .inside)) (λ _. u .no-distance k) (omega arith)) (omega arith) t
 
-  following-next : {r : Effect} → GoesOn e k h r → next e k < length e → {y : Bool} → (y ≡ false → (x ≡ false) × (classAt e k ≢ setv))
+  following-next : {r : Effect} → GoesOn e k h g r → next e k < length e → {y : Bool} → (y ≡ false → (x ≡ false) × (classAt e k ≢ setv))
       → Following e (next e k) (heightAfter e k h) (n + 1) (max g (heightAfter e k h)) y
   following-next w i q =
       let ks : List ℕ = startsFrom e (next e k) in
@@ -102,19 +102,19 @@ module _ {e : List ℕ} {k h n g : ℕ} {x : Bool} (s : Following e k h n g x) w
         quiet = quiet-next e k (s .start) (s .quiet) q;
       }
 
-  pub following-on : {r : Effect} → GoesOn e k h r → (m : ℕ) → m ≡ max g (r .height) → r .at < length e → {y : Bool} → (y ≡ false → (x ≡ false) × (classAt e k ≢ setv))
-      → Following e (r .at) (r .height) (n + 1) m y
-  following-on w m p i q = rw (p, w .height-is, w .at-is) (following-next w (omega (arith, w .at-is)) q)
+  pub following-on : {r : Effect} → GoesOn e k h g r → r .at < length e → {y : Bool} → (y ≡ false → (x ≡ false) × (classAt e k ≢ setv))
+      → Following e (r .at) (r .height) (n + 1) (r .greatest) y
+  following-on w i q = rw (w .greatest-is, w .height-is, w .at-is) (following-next w (omega (arith, w .at-is)) q)
 
 -- ---- both ways on: y tells of a setv behind the instruction, x before it
-pub goes-on : {e : List ℕ} {k h : ℕ} {r : Effect} {x y : Bool} → HasEffect e k h r → ((r .stop ≡ stop-sets) × (y ≡ true)) ⊎ ((r .stop ≡ stop-on) × (y ≡ x))
-    → GoesOn e k h r × (y ≡ false → (x ≡ false) × (classAt e k ≢ setv))
+pub goes-on : {e : List ℕ} {k h g : ℕ} {r : Effect} {x y : Bool} → HasEffect e k h g r → ((r .stop ≡ stop-sets) × (y ≡ true)) ⊎ ((r .stop ≡ stop-on) × (y ≡ x))
+    → GoesOn e k h g r × (y ≡ false → (x ≡ false) × (classAt e k ≢ setv))
 goes-on w =
     ⊎-elim (λ c. (w .sets (c .0), λ z. no-true (sym z ∙ c .1)))
     (λ c. (w .on (c .0), λ z. (sym (c .1) ∙ z, w .quiet (omega (arith, c .0)) (omega (arith, c .0)))))
 
 -- ---- where the loop stops
-pub followed-stop : {e : List ℕ} {k h n g : ℕ} {x : Bool} {r : Effect} → Following e k h n g x → n ≤ 1032 → HasEffect e k h r
+pub followed-stop : {e : List ℕ} {k h n g : ℕ} {x : Bool} {r : Effect} → Following e k h n g x → n ≤ 1032 → HasEffect e k h g r
     → Followed e (record { stop = r .stop; at = k; height = h; count = n; greatest = g; sets = x })
 followed-stop s f w = record { few = f; not-yet = λ z. absurd (omega (arith, w .most)); following = λ _. s; end = w .end }
 

@@ -4,7 +4,7 @@ use mathlib.Core.Bool.{Bool, true, false}
 use mathlib.Core.List.{List}
 use mathlib.Core.Path.{_≡_}
 use mathlib.Core.Logic.{_≢_}
-use Prim.Native.Nat.{ℕ, _+_, _-_, _≤_, _<_}
+use Prim.Native.Nat.{ℕ, _+_, _-_, _≤_, _<_, max}
 use lib.ListN.{length}
 use Rattle.isa.specs.Classes.{kind-goto, kind-if-goto, kind-end, setv}
 use Rattle.isa.specs.Decode.{classAt, kindAt, next, needed, left, heightAfter}
@@ -43,20 +43,22 @@ stop-accepted = 6
 -- ---- one instruction
 -- an instruction at k that has o operand bytes, needs n cells and leaves m in their place: it goes on, as s says, or is
 -- in doubt
-pub record ByRow (s k h o n m : ℕ) (r : Effect) : Type 0 where
+pub record ByRow (s k h g o n m : ℕ) (r : Effect) : Type 0 where
   pub either : r .stop ≢ stop-doubt → r .stop ≡ s
   pub cells : r .stop ≢ stop-doubt → n ≤ h
   pub at-is : r .stop ≢ stop-doubt → r .at ≡ k + 1 + o
   pub height-is : r .stop ≢ stop-doubt → r .height ≡ h - n + m
+  pub greatest-is : r .stop ≢ stop-doubt → r .greatest ≡ max g (h - n + m)
 
--- the instruction at k, reached with height h, is neither a jump nor an end, and meets no refusal where its bytes are
+-- the instruction at k, reached with height h, the greatest being g, is neither a jump nor an end, and meets no refusal where its bytes are
 -- there
-pub record GoesOn (e : List ℕ) (k h : ℕ) (r : Effect) : Type 0 where
+pub record GoesOn (e : List ℕ) (k h g : ℕ) (r : Effect) : Type 0 where
   pub clear : next e k ≤ length e → fault1 e k ≡ 0
   pub straight : kindAt e k < kind-goto
   pub cells : needed e k ≤ h
   pub at-is : r .at ≡ next e k
   pub height-is : r .height ≡ heightAfter e k h
+  pub greatest-is : r .greatest ≡ max g (heightAfter e k h)
   pub low : r .height ≤ h + 1
   pub near : r .at ≤ k + 9
 
@@ -80,14 +82,14 @@ pub record IsGoto (e : List ℕ) (k : ℕ) : Type 0 where
   pub kind-is : kindAt e k ≡ kind-goto
   pub jump : IsJump e k 0
 
--- the instruction at k, reached with height h
-pub record HasEffect (e : List ℕ) (k h : ℕ) (r : Effect) : Type 0 where
+-- the instruction at k, reached with height h, the greatest being g
+pub record HasEffect (e : List ℕ) (k h g : ℕ) (r : Effect) : Type 0 where
   pub most : r .stop ≤ stop-sets
-  pub on : r .stop ≡ stop-on → GoesOn e k h r
+  pub on : r .stop ≡ stop-on → GoesOn e k h g r
   pub if-goto : r .stop ≡ stop-if-goto → IsIfGoto e k
   pub end : r .stop ≡ stop-end → IsEnd e k
   pub goto : r .stop ≡ stop-goto → IsGoto e k
-  pub sets : r .stop ≡ stop-sets → GoesOn e k h r
+  pub sets : r .stop ≡ stop-sets → GoesOn e k h g r
   pub quiet : r .stop ≢ stop-doubt → r .stop ≢ stop-sets → classAt e k ≢ setv
 
 -- ---- straight code

@@ -13,12 +13,23 @@ ghost use Rattle.verdict.specs.Pass3.{unreached};
 ghost use Rattle.passes.specs.Tables.{Unmeasured};
 ghost use Rattle.acceptor.specs.StraightCode.{«stop-on», «stop-doubt», IsJump, IsIfGoto, IsGoto, IsEnd, GoesOn, HasEffect, Following};
 ghost use Rattle.acceptor.specs.CodeWithJumps.{JoinsOr, Jumped, Brought, Branching, Joined, Turns, Concluded};
+use crate::ACCEPTED;
+use crate::DOUBT;
+use crate::END;
 use crate::Effect;
+use crate::GOTO;
+use crate::IF_GOTO;
 use crate::Join;
 use crate::Jump;
+use crate::ON;
+use crate::SETS;
 use crate::State;
 use crate::Stop;
-use crate::effects;
+use crate::effects::by_row;
+use crate::effects::ext;
+use crate::effects::halt;
+use crate::effects::pick;
+use crate::effects::variable;
 use passes::Flow;
 use passes::brought;
 
@@ -37,20 +48,20 @@ fn join(
     let cell = brought::wide(heights[at]);
     if cell == brought::UNREACHED {
         return Join {
-            stop: crate::ON,
+            stop: ON,
             distance,
             met,
         };
     }
     if cell != height {
         return Join {
-            stop: crate::DOUBT,
+            stop: DOUBT,
             distance,
             met,
         };
     }
     Join {
-        stop: crate::ON,
+        stop: ON,
         distance: brought::greater(brought::wide16(distances[at]), distance),
         met: met + 1,
     }
@@ -72,7 +83,7 @@ fn no_jump(at: usize) -> Jump
     ensures { λ r. ⌜ r .stop ≡ stop-doubt ⌝ }
 {
     Jump {
-        stop: crate::DOUBT,
+        stop: DOUBT,
         height: at,
         noted: 0,
     }
@@ -122,7 +133,7 @@ fn jump(
     let after = height - needed;
     brought::arrive_at(target, after, distance + 1, heights, distances);
     Jump {
-        stop: crate::ON,
+        stop: ON,
         height: after,
         noted: noted + fresh,
     }
@@ -132,7 +143,7 @@ fn in_doubt(s: State) -> State
     ensures { λ r. ⌜ r .stop ≡ stop-doubt ⌝ }
 {
     State {
-        stop: crate::DOUBT,
+        stop: DOUBT,
         at: s.at,
         height: s.height,
         distance: s.distance,
@@ -152,11 +163,11 @@ fn at_if_goto(e: &[u8], s: State, heights: &mut [u8], distances: &mut [u16]) -> 
 {
     let at = s.at;
     let jump = jump(e, at, 1, s.height, s.distance, s.noted, heights, distances);
-    if jump.stop != crate::ON {
+    if jump.stop != ON {
         return in_doubt(s);
     }
     State {
-        stop: crate::ON,
+        stop: ON,
         at: at + 3,
         height: jump.height,
         distance: s.distance + 1,
@@ -176,7 +187,7 @@ fn at_goto(e: &[u8], s: State, heights: &mut [u8], distances: &mut [u16]) -> Sta
 {
     let at = s.at;
     let jump = jump(e, at, 0, s.height, s.distance, s.noted, heights, distances);
-    if jump.stop != crate::ON {
+    if jump.stop != ON {
         return in_doubt(s);
     }
     let next = at + 3;
@@ -185,7 +196,7 @@ fn at_goto(e: &[u8], s: State, heights: &mut [u8], distances: &mut [u16]) -> Sta
         return in_doubt(s);
     }
     State {
-        stop: crate::ON,
+        stop: ON,
         at: next,
         height: flow.height,
         distance: flow.distance,
@@ -210,7 +221,7 @@ fn at_last(s: State, longest: usize) -> State
         return in_doubt(s);
     }
     State {
-        stop: crate::ACCEPTED,
+        stop: ACCEPTED,
         at: s.at,
         height: s.height,
         distance: s.distance,
@@ -238,7 +249,7 @@ fn at_end(e: &[u8], s: State, heights: &[u8], distances: &[u16]) -> State
         return in_doubt(s);
     }
     State {
-        stop: crate::ON,
+        stop: ON,
         at: next,
         height: flow.height,
         distance: flow.distance,
@@ -253,64 +264,52 @@ fn at_end(e: &[u8], s: State, heights: &[u8], distances: &[u16]) -> State
 
 // The instruction at `at`, reached with that height. The arms are those of straight code: one function that two loops
 // call would be placed in neither, at twice the cost of an instruction.
-fn effect_at(e: &[u8], at: usize, height: usize) -> Effect
-    requires { ⌜ (at < length (now e)) × (length (now e) ≤ 1024) × (height ≤ 2048) ⌝ }
-    ensures { λ r. ⌜ HasEffect (now (e .entry)) at height r ⌝ }
+fn effect_at(e: &[u8], at: usize, height: usize, greatest: usize) -> Effect
+    requires { ⌜ (at < length (now e)) × (length (now e) ≤ 1024) × (height ≤ 2048) × (height ≤ greatest) ⌝ }
+    ensures { λ r. ⌜ HasEffect (now (e .entry)) at height greatest r ⌝ }
 {
     let opcode = e[at];
     match opcode {
-        0x02 | 0x04 | 0x06 | 0x08 | 0x0a | 0x0f | 0x11 | 0x13 | 0x15 => effects::by_row(
-            at,
-            height,
-            crate::ON,
-            0,
-            2,
-            1,
-        ),
-        0x03 | 0x05 | 0x07 | 0x09 | 0x0b | 0x10 | 0x14 => effects::by_row(
-            at,
-            height,
-            crate::ON,
-            0,
-            2,
-            1,
-        ),
-        0x0c | 0x2f => effects::by_row(at, height, crate::ON, 0, 2, 0),
-        0x0e | 0x12 | 0x17 | 0x19 => effects::by_row(at, height, crate::ON, 0, 1, 1),
-        0x18 | 0x1a => effects::by_row(at, height, crate::ON, 0, 1, 1),
-        0x0d | 0x2a => effects::by_row(at, height, crate::ON, 1, 1, 1),
-        0x30 => effects::by_row(at, height, crate::ON, 2, 1, 1),
-        0x22 => effects::by_row(at, height, crate::ON, 1, 0, 1),
-        0x23 | 0x26 => effects::by_row(at, height, crate::ON, 2, 0, 1),
-        0x24 => effects::by_row(at, height, crate::ON, 4, 0, 1),
-        0x25 => effects::by_row(at, height, crate::ON, 8, 0, 1),
-        0x28 => effects::by_row(at, height, crate::ON, 0, 1, 2),
-        0x29 => effects::by_row(at, height, crate::ON, 0, 1, 0),
-        0x2b => effects::by_row(at, height, crate::ON, 0, 2, 2),
-        0x33 => effects::by_row(at, height, crate::ON, 0, 3, 3),
-        0x16 => effects::ext(e, at, height),
-        0x2c | 0x2e => effects::variable(e, at, height, crate::ON, 0),
-        0x2d => effects::variable(e, at, height, crate::SETS, 1),
-        0x32 => effects::pick(e, at, height),
-        0x20 => effects::halt(crate::IF_GOTO),
-        0x21 => effects::halt(crate::GOTO),
-        0x27 => effects::halt(crate::END),
-        _ => effects::halt(crate::DOUBT),
+        0x02 | 0x04 | 0x06 | 0x08 | 0x0a => by_row(at, height, greatest, ON, 0, 2, 1),
+        0x0f | 0x11 | 0x13 | 0x15 => by_row(at, height, greatest, ON, 0, 2, 1),
+        0x03 | 0x05 | 0x07 | 0x09 | 0x0b => by_row(at, height, greatest, ON, 0, 2, 1),
+        0x10 | 0x14 => by_row(at, height, greatest, ON, 0, 2, 1),
+        0x0c | 0x2f => by_row(at, height, greatest, ON, 0, 2, 0),
+        0x0e | 0x12 | 0x17 | 0x19 => by_row(at, height, greatest, ON, 0, 1, 1),
+        0x18 | 0x1a => by_row(at, height, greatest, ON, 0, 1, 1),
+        0x0d | 0x2a => by_row(at, height, greatest, ON, 1, 1, 1),
+        0x30 => by_row(at, height, greatest, ON, 2, 1, 1),
+        0x22 => by_row(at, height, greatest, ON, 1, 0, 1),
+        0x23 | 0x26 => by_row(at, height, greatest, ON, 2, 0, 1),
+        0x24 => by_row(at, height, greatest, ON, 4, 0, 1),
+        0x25 => by_row(at, height, greatest, ON, 8, 0, 1),
+        0x28 => by_row(at, height, greatest, ON, 0, 1, 2),
+        0x29 => by_row(at, height, greatest, ON, 0, 1, 0),
+        0x2b => by_row(at, height, greatest, ON, 0, 2, 2),
+        0x33 => by_row(at, height, greatest, ON, 0, 3, 3),
+        0x16 => ext(e, at, height, greatest),
+        0x2c | 0x2e => variable(e, at, height, greatest, ON, 0),
+        0x2d => variable(e, at, height, greatest, SETS, 1),
+        0x32 => pick(e, at, height, greatest),
+        0x20 => halt(IF_GOTO),
+        0x21 => halt(GOTO),
+        0x27 => halt(END),
+        _ => halt(DOUBT),
     }
 }
 
 // An instruction that goes on to the next start.
 fn onward(s: State, effect: Effect, sets: bool) -> State
     requires { ⌜ (s .distance ≤ 1024) × (s .count ≤ 1024) ⌝ }
-    ensures { λ r. ⌜ ((e hs ds : List ℕ) → Joined e s hs ds → GoesOn e (s .at) (s .height) effect → (sets ≡ false → (s .sets ≡ false) × (classAt e (s .at) ≢ setv)) → Turns e (s .at) r hs ds) ⌝ }
+    ensures { λ r. ⌜ ((e hs ds : List ℕ) → Joined e s hs ds → GoesOn e (s .at) (s .height) (s .greatest) effect → (sets ≡ false → (s .sets ≡ false) × (classAt e (s .at) ≢ setv)) → Turns e (s .at) r hs ds) ⌝ }
 {
     State {
-        stop: crate::ON,
+        stop: ON,
         at: effect.at,
         height: effect.height,
         distance: s.distance + 1,
         count: s.count + 1,
-        greatest: brought::greater(s.greatest, effect.height),
+        greatest: effect.greatest,
         longest: s.longest,
         noted: s.noted,
         met: s.met,
@@ -323,20 +322,20 @@ fn turn(e: &[u8], s: State, heights: &mut [u8], distances: &mut [u16]) -> State
     requires { ⌜ Joined (now e) s (now heights) (now distances) ⌝ }
     ensures { λ r. ⌜ Turns (now (e .entry)) (s .at) r (now (heights .exit)) (now (distances .exit)) ⌝ }
 {
-    let effect = effect_at(e, s.at, s.height);
-    if effect.stop == crate::ON {
+    let effect = effect_at(e, s.at, s.height, s.greatest);
+    if effect.stop == ON {
         return onward(s, effect, s.sets);
     }
-    if effect.stop == crate::IF_GOTO {
+    if effect.stop == IF_GOTO {
         return at_if_goto(e, s, heights, distances);
     }
-    if effect.stop == crate::GOTO {
+    if effect.stop == GOTO {
         return at_goto(e, s, heights, distances);
     }
-    if effect.stop == crate::END {
+    if effect.stop == END {
         return at_end(e, s, heights, distances);
     }
-    if effect.stop == crate::SETS {
+    if effect.stop == SETS {
         return onward(s, effect, true);
     }
     in_doubt(s)
@@ -349,11 +348,11 @@ fn at_start(e: &[u8], s: State, heights: &mut [u8], distances: &mut [u16]) -> St
 {
     let at = s.at;
     let join = join(at, s.height, s.distance, s.met, heights, distances);
-    if join.stop != crate::ON {
+    if join.stop != ON {
         return in_doubt(s);
     }
     let here = State {
-        stop: crate::ON,
+        stop: ON,
         at,
         height: s.height,
         distance: join.distance,
@@ -374,7 +373,7 @@ fn follow(e: &[u8], from: Stop, heights: &mut [u8], distances: &mut [u16]) -> St
 {
     let mut at = from.at;
     let mut s = State {
-        stop: crate::ON,
+        stop: ON,
         at: from.at,
         height: from.height,
         distance: from.count,
@@ -387,7 +386,7 @@ fn follow(e: &[u8], from: Stop, heights: &mut [u8], distances: &mut [u16]) -> St
     };
     while at < e.len() {
         s = at_start(e, s, heights, distances);
-        if s.stop != crate::ON {
+        if s.stop != ON {
             return s;
         }
         at = s.at;

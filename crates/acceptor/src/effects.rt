@@ -2,12 +2,13 @@
 // cut short are not tested here: the next offset is then not below the length, and the pass is in doubt there.
 ghost use mathlib.Core.Path.{_≡_};
 ghost use mathlib.Core.Logic.{_≢_};
-ghost use Prim.Native.Nat.{_+_, _≤_, _<_};
+ghost use Prim.Native.Nat.{_+_, _≤_, _<_, max};
 ghost use lib.ListN.{length};
 ghost use Rattle.isa.specs.Classes.{«kind-ext», «kind-variable», «kind-pick»};
 ghost use Rattle.isa.specs.Decode.{kindAt, operand, picked};
 ghost use Rattle.acceptor.specs.StraightCode.{«stop-on», «stop-doubt», ByRow};
 use crate::Effect;
+use passes::brought;
 
 // An instruction behind which the pass does not go on by itself: a jump, an end, or doubt. Its offset and height are of
 // no use, and are no sums of others: the compiler would compute them where the instruction goes on.
@@ -18,35 +19,51 @@ pub(crate) fn halt(stop: u8) -> Effect
         stop,
         at: 0,
         height: 0,
+        greatest: 0,
     }
+}
+
+// The greatest height behind an instruction that needs and leaves so many cells. Only one that leaves more can raise it:
+// where both are literals, no other compares.
+fn greatest_after(needed: usize, left: usize, after: usize, greatest: usize) -> usize
+    requires { ⌜ (left ≤ needed → after ≤ greatest) ⌝ }
+    ensures { λ r. ⌜ r ≡ max greatest after ⌝ }
+{
+    if left <= needed {
+        return greatest;
+    }
+    brought::greater(greatest, after)
 }
 
 // An instruction of that row, which has no rule of its own. It goes on as `stop` says.
 pub(crate) fn by_row(
     at: usize,
     height: usize,
+    greatest: usize,
     stop: u8,
     operands: usize,
     needed: usize,
     left: usize,
 ) -> Effect
-    requires { ⌜ (at < 1024) × (height ≤ 2048) × (operands ≤ 8) × (left ≤ 512) ⌝ }
-    ensures { λ r. ⌜ ByRow stop at height operands needed left r ⌝ }
+    requires { ⌜ (at < 1024) × (height ≤ 2048) × (height ≤ greatest) × (operands ≤ 8) × (left ≤ 512) ⌝ }
+    ensures { λ r. ⌜ ByRow stop at height greatest operands needed left r ⌝ }
 {
     if height < needed {
         return halt(crate::DOUBT);
     }
+    let after = height - needed + left;
     Effect {
         stop,
         at: at + 1 + operands,
-        height: height - needed + left,
+        height: after,
+        greatest: greatest_after(needed, left, after, greatest),
     }
 }
 
 // ext N: N is not 0.
-pub(crate) fn ext(e: &[u8], at: usize, height: usize) -> Effect
-    requires { ⌜ (at < length (now e)) × (length (now e) ≤ 1024) × (height ≤ 2048) × (kindAt (now e) at ≡ kind-ext) ⌝ }
-    ensures { λ r. ⌜ ByRow stop-on at height 1 1 1 r × (r .stop ≢ stop-doubt → 1 ≤ operand (now (e .entry)) at) ⌝ }
+pub(crate) fn ext(e: &[u8], at: usize, height: usize, greatest: usize) -> Effect
+    requires { ⌜ (at < length (now e)) × (length (now e) ≤ 1024) × (height ≤ 2048) × (height ≤ greatest) × (kindAt (now e) at ≡ kind-ext) ⌝ }
+    ensures { λ r. ⌜ ByRow stop-on at height greatest 1 1 1 r × (r .stop ≢ stop-doubt → 1 ≤ operand (now (e .entry)) at) ⌝ }
 {
     if e.len() - at < 2 {
         return halt(crate::DOUBT);
@@ -54,13 +71,20 @@ pub(crate) fn ext(e: &[u8], at: usize, height: usize) -> Effect
     if isa::operand_at(e, at, 1) == 0 {
         return halt(crate::DOUBT);
     }
-    by_row(at, height, crate::ON, 1, 1, 1)
+    by_row(at, height, greatest, crate::ON, 1, 1, 1)
 }
 
 // A variable is below 64. It goes on as `stop` says.
-pub(crate) fn variable(e: &[u8], at: usize, height: usize, stop: u8, needed: usize) -> Effect
-    requires { ⌜ (at < length (now e)) × (length (now e) ≤ 1024) × (height ≤ 2048) × (kindAt (now e) at ≡ kind-variable) ⌝ }
-    ensures { λ r. ⌜ ByRow stop at height 2 needed 1 r × (r .stop ≢ stop-doubt → operand (now (e .entry)) at ≤ 63) ⌝ }
+pub(crate) fn variable(
+    e: &[u8],
+    at: usize,
+    height: usize,
+    greatest: usize,
+    stop: u8,
+    needed: usize,
+) -> Effect
+    requires { ⌜ (at < length (now e)) × (length (now e) ≤ 1024) × (height ≤ 2048) × (height ≤ greatest) × (kindAt (now e) at ≡ kind-variable) ⌝ }
+    ensures { λ r. ⌜ ByRow stop at height greatest 2 needed 1 r × (r .stop ≢ stop-doubt → operand (now (e .entry)) at ≤ 63) ⌝ }
 {
     if e.len() - at < 3 {
         return halt(crate::DOUBT);
@@ -68,17 +92,17 @@ pub(crate) fn variable(e: &[u8], at: usize, height: usize, stop: u8, needed: usi
     if 63 < isa::operand_at(e, at, 2) {
         return halt(crate::DOUBT);
     }
-    by_row(at, height, stop, 2, needed, 1)
+    by_row(at, height, greatest, stop, 2, needed, 1)
 }
 
 // pick N: N comes on top of its row.
-pub(crate) fn pick(e: &[u8], at: usize, height: usize) -> Effect
-    requires { ⌜ (at < length (now e)) × (length (now e) ≤ 1024) × (height ≤ 2048) × (kindAt (now e) at ≡ kind-pick) ⌝ }
-    ensures { λ r. ⌜ ByRow stop-on at height 1 (1 + picked (now (e .entry)) at) (2 + picked (now (e .entry)) at) r ⌝ }
+pub(crate) fn pick(e: &[u8], at: usize, height: usize, greatest: usize) -> Effect
+    requires { ⌜ (at < length (now e)) × (length (now e) ≤ 1024) × (height ≤ 2048) × (height ≤ greatest) × (kindAt (now e) at ≡ kind-pick) ⌝ }
+    ensures { λ r. ⌜ ByRow stop-on at height greatest 1 (1 + picked (now (e .entry)) at) (2 + picked (now (e .entry)) at) r ⌝ }
 {
     if e.len() - at < 2 {
         return halt(crate::DOUBT);
     }
     let n = isa::operand_at(e, at, 1) as usize;
-    by_row(at, height, crate::ON, 1, 1 + n, 2 + n)
+    by_row(at, height, greatest, crate::ON, 1, 1 + n, 2 + n)
 }

@@ -28,11 +28,12 @@ pub const SETS: u8 = 5;
 
 pub const ACCEPTED: u8 = 6;
 
-// What an instruction leaves: the offset and the height of the next start, where it goes on.
+// What an instruction leaves where it goes on: the offset and the height of the next start, and the greatest height.
 pub struct Effect {
     pub stop: u8,
     pub at: usize,
     pub height: usize,
+    pub greatest: usize,
 }
 
 // Where the pass over straight code stopped: the offset, the height there, the instructions before it, the greatest

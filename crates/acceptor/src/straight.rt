@@ -4,56 +4,53 @@ ghost use mathlib.Core.Path.{_≡_};
 ghost use Prim.Native.Nat.{_≤_, _<_};
 ghost use lib.ListN.{length};
 ghost use Rattle.acceptor.specs.StraightCode.{HasEffect, Followed};
+use crate::DOUBT;
+use crate::END;
 use crate::Effect;
+use crate::GOTO;
+use crate::IF_GOTO;
+use crate::ON;
+use crate::SETS;
 use crate::Stop;
-use crate::effects;
-use passes::brought;
+use crate::effects::by_row;
+use crate::effects::ext;
+use crate::effects::halt;
+use crate::effects::pick;
+use crate::effects::variable;
 
 // The instruction at `at`, reached with that height. Neighbours of one row stand in two arms: as one arm they would be
 // tested for as a range before the jump table, which joins them again.
-fn effect_at(e: &[u8], at: usize, height: usize) -> Effect
-    requires { ⌜ (at < length (now e)) × (length (now e) ≤ 1024) × (height ≤ 2048) ⌝ }
-    ensures { λ r. ⌜ HasEffect (now (e .entry)) at height r ⌝ }
+fn effect_at(e: &[u8], at: usize, height: usize, greatest: usize) -> Effect
+    requires { ⌜ (at < length (now e)) × (length (now e) ≤ 1024) × (height ≤ 2048) × (height ≤ greatest) ⌝ }
+    ensures { λ r. ⌜ HasEffect (now (e .entry)) at height greatest r ⌝ }
 {
     let opcode = e[at];
     match opcode {
-        0x02 | 0x04 | 0x06 | 0x08 | 0x0a | 0x0f | 0x11 | 0x13 | 0x15 => effects::by_row(
-            at,
-            height,
-            crate::ON,
-            0,
-            2,
-            1,
-        ),
-        0x03 | 0x05 | 0x07 | 0x09 | 0x0b | 0x10 | 0x14 => effects::by_row(
-            at,
-            height,
-            crate::ON,
-            0,
-            2,
-            1,
-        ),
-        0x0c | 0x2f => effects::by_row(at, height, crate::ON, 0, 2, 0),
-        0x0e | 0x12 | 0x17 | 0x19 => effects::by_row(at, height, crate::ON, 0, 1, 1),
-        0x18 | 0x1a => effects::by_row(at, height, crate::ON, 0, 1, 1),
-        0x0d | 0x2a => effects::by_row(at, height, crate::ON, 1, 1, 1),
-        0x30 => effects::by_row(at, height, crate::ON, 2, 1, 1),
-        0x22 => effects::by_row(at, height, crate::ON, 1, 0, 1),
-        0x23 | 0x26 => effects::by_row(at, height, crate::ON, 2, 0, 1),
-        0x24 => effects::by_row(at, height, crate::ON, 4, 0, 1),
-        0x25 => effects::by_row(at, height, crate::ON, 8, 0, 1),
-        0x28 => effects::by_row(at, height, crate::ON, 0, 1, 2),
-        0x29 => effects::by_row(at, height, crate::ON, 0, 1, 0),
-        0x2b => effects::by_row(at, height, crate::ON, 0, 2, 2),
-        0x33 => effects::by_row(at, height, crate::ON, 0, 3, 3),
-        0x16 => effects::ext(e, at, height),
-        0x2c | 0x2e => effects::variable(e, at, height, crate::ON, 0),
-        0x2d => effects::variable(e, at, height, crate::SETS, 1),
-        0x32 => effects::pick(e, at, height),
-        0x20 => effects::halt(crate::IF_GOTO),
-        0x21 => effects::halt(crate::GOTO),
-        0x27 => effects::halt(crate::END),
-        _ => effects::halt(crate::DOUBT),
+        0x02 | 0x04 | 0x06 | 0x08 | 0x0a => by_row(at, height, greatest, ON, 0, 2, 1),
+        0x0f | 0x11 | 0x13 | 0x15 => by_row(at, height, greatest, ON, 0, 2, 1),
+        0x03 | 0x05 | 0x07 | 0x09 | 0x0b => by_row(at, height, greatest, ON, 0, 2, 1),
+        0x10 | 0x14 => by_row(at, height, greatest, ON, 0, 2, 1),
+        0x0c | 0x2f => by_row(at, height, greatest, ON, 0, 2, 0),
+        0x0e | 0x12 | 0x17 | 0x19 => by_row(at, height, greatest, ON, 0, 1, 1),
+        0x18 | 0x1a => by_row(at, height, greatest, ON, 0, 1, 1),
+        0x0d | 0x2a => by_row(at, height, greatest, ON, 1, 1, 1),
+        0x30 => by_row(at, height, greatest, ON, 2, 1, 1),
+        0x22 => by_row(at, height, greatest, ON, 1, 0, 1),
+        0x23 | 0x26 => by_row(at, height, greatest, ON, 2, 0, 1),
+        0x24 => by_row(at, height, greatest, ON, 4, 0, 1),
+        0x25 => by_row(at, height, greatest, ON, 8, 0, 1),
+        0x28 => by_row(at, height, greatest, ON, 0, 1, 2),
+        0x29 => by_row(at, height, greatest, ON, 0, 1, 0),
+        0x2b => by_row(at, height, greatest, ON, 0, 2, 2),
+        0x33 => by_row(at, height, greatest, ON, 0, 3, 3),
+        0x16 => ext(e, at, height, greatest),
+        0x2c | 0x2e => variable(e, at, height, greatest, ON, 0),
+        0x2d => variable(e, at, height, greatest, SETS, 1),
+        0x32 => pick(e, at, height, greatest),
+        0x20 => halt(IF_GOTO),
+        0x21 => halt(GOTO),
+        0x27 => halt(END),
+        _ => halt(DOUBT),
     }
 }
 
@@ -68,9 +65,9 @@ pub(crate) fn follow(e: &[u8]) -> Stop
     let mut greatest = 0;
     let mut sets = false;
     while at < e.len() {
-        let effect = effect_at(e, at, height);
-        if effect.stop != crate::ON {
-            if effect.stop != crate::SETS {
+        let effect = effect_at(e, at, height, greatest);
+        if effect.stop != ON {
+            if effect.stop != SETS {
                 return Stop {
                     stop: effect.stop,
                     at,
@@ -84,11 +81,11 @@ pub(crate) fn follow(e: &[u8]) -> Stop
         }
         at = effect.at;
         height = effect.height;
-        greatest = brought::greater(greatest, height);
+        greatest = effect.greatest;
         count += 1;
     }
     Stop {
-        stop: crate::DOUBT,
+        stop: DOUBT,
         at,
         height,
         count,

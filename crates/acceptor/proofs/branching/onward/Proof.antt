@@ -9,11 +9,8 @@ add-t4 c = search needs
 add-t5 : tie.Need-add-t5
 add-t5 c = search needs
 
-greater-requires : tie.Need-greater-requires
-greater-requires c κs = search needs
-
 returns : tie.Need-returns
-returns c _ _ _ j g q = turned-on j g _ (c .greater .ensures) q
+returns c _ _ _ j g q = turned-on j g q
 
 pub onward-spec : {M : Type 1} → statement M
-onward-spec = tie.close (tie.spec add-t4 add-t5 greater-requires returns)
+onward-spec = tie.close (tie.spec add-t4 add-t5 returns)

@@ -31,7 +31,7 @@ by-row-requires : tie.Need-by-row-requires
 by-row-requires c κs = search needs
 
 returns-2 : tie.Need-returns-2
-returns-2 c = row-pick _ _ _ _ (c .by-row .ensures) (c .before .operand-at .ensures .0) (omega arith)
+returns-2 c = row-pick _ _ _ _ _ (c .by-row .ensures) (c .before .operand-at .ensures .0) (omega arith)
 
 pub pick-spec : {M : Type 1} → statement M
 pick-spec =

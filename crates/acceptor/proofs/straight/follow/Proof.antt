@@ -10,13 +10,13 @@ use Rattle.acceptor.proofs.straight.follow.Tie as tie
 
 abbrev Inv-loop : tie.InvT-loop
 Inv-loop e at₀ height₀ count₀ greatest₀ sets₀ at height count greatest sets =
-    (at < length e → Following e at height count greatest sets) × (count ≤ at) × (height ≤ at) × (at ≤ length e + 8)
+    (at < length e → Following e at height count greatest sets) × (count ≤ at) × (height ≤ at) × (height ≤ greatest) × (at ≤ length e + 8)
 
 abbrev μ-loop : tie.MeasureT-loop
 μ-loop e at₀ height₀ count₀ greatest₀ sets₀ at height count greatest sets = length e - at
 
 loop-holds : tie.Need-loop-holds Inv-loop μ-loop
-loop-holds c = ((λ i. following-start _ i (c .before .pre)), omega arith, omega arith, omega arith)
+loop-holds c = ((λ i. following-start _ i (c .before .pre)), omega arith, omega arith, omega arith, omega arith)
 
 effect-at-requires : tie.Need-effect-at-requires Inv-loop μ-loop
 effect-at-requires c κs = search needs
@@ -26,27 +26,23 @@ returns c =
     let at-effect-at = c .before .before .before .before in
     followed-stop (at-effect-at .before .before .loop .inv .0 (omega arith)) (omega arith) (at-effect-at .effect-at .ensures)
 
-greater-requires : tie.Need-greater-requires Inv-loop μ-loop
-greater-requires c κs = search needs
-
 add-count : tie.Need-add-count Inv-loop μ-loop
 add-count c = search needs
 
 loop-less : tie.Need-loop-less Inv-loop μ-loop
 loop-less c =
-    let at-if1 = c .before in
-    let at-effect-at = at-if1 .before .before in
-    let w = goes-on (at-effect-at .effect-at .ensures) (⊎-elim (λ x. inl (omega (arith, x .2 .left), x .3)) (λ x. inr (omega (arith, x .0 .left), x .1)) (at-if1 .if1 .came)) .0 in
+    let at-effect-at = c .before .before in
+    let w = goes-on (at-effect-at .effect-at .ensures) (⊎-elim (λ x. inl (omega (arith, x .2 .left), x .3)) (λ x. inr (omega (arith, x .0 .left), x .1)) (c .if1 .came)) .0 in
     omega (arith, w .at-is)
 
 loop-again : tie.Need-loop-again Inv-loop μ-loop
 loop-again c =
-    let at-if1 = c .before in
-    let at-effect-at = at-if1 .before .before in
-    let w = goes-on (at-effect-at .effect-at .ensures) (⊎-elim (λ x. inl (omega (arith, x .2 .left), x .3)) (λ x. inr (omega (arith, x .0 .left), x .1)) (at-if1 .if1 .came)) in (
-      (λ i. following-on (at-effect-at .before .before .loop .inv .0 (omega arith)) (w .0) _ (c .greater .ensures) i (w .1)),
+    let at-effect-at = c .before .before in
+    let w = goes-on (at-effect-at .effect-at .ensures) (⊎-elim (λ x. inl (omega (arith, x .2 .left), x .3)) (λ x. inr (omega (arith, x .0 .left), x .1)) (c .if1 .came)) in (
+      (λ i. following-on (at-effect-at .before .before .loop .inv .0 (omega arith)) (w .0) i (w .1)),
       omega (arith, w .0 .at-is),
       omega (arith, w .0 .at-is, w .0 .low),
+      omega (arith, w .0 .height-is, w .0 .greatest-is),
       omega (arith, w .0 .near),
     )
 
@@ -62,7 +58,6 @@ follow-spec =
     loop-holds
     effect-at-requires
     returns
-    greater-requires
     add-count
     loop-less
     loop-again
