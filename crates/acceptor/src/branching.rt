@@ -263,7 +263,7 @@ fn at_end(e: &[u8], s: State, heights: &[u8], distances: &[u16]) -> State
 }
 
 // The instruction at `at`, reached with that height. The arms are those of straight code: one function that two loops
-// call would be placed in neither, at twice the cost of an instruction.
+// call would be placed in neither, and every instruction would pay for a call.
 fn effect_at(e: &[u8], at: usize, height: usize, greatest: usize) -> Effect
     requires { ⌜ (at < length (now e)) × (length (now e) ≤ 1024) × (height ≤ 2048) × (height ≤ greatest) ⌝ }
     ensures { λ r. ⌜ HasEffect (now (e .entry)) at height greatest r ⌝ }

@@ -2,6 +2,7 @@
 -- What a reader must believe besides is the definitions that are named here: `verdict`, `Walk` and `Accepted`
 -- (verifier, isa), `ended` (machine), `fetched`, `targetByte` and `InTarget` (memory), `encodeFrame` (frames),
 -- `reading`, `counting`, `located` and `walked` (reader), `ToldRun` (lilivrez_agent), and this crate's specs/.
+use mathlib.Core.Bool.{false}
 use mathlib.Core.List.{List, _∷_, _++_}
 use mathlib.Core.Logic.{_↔_, _≢_}
 use mathlib.Core.Path.{_≡_, sym, ap, _∙_}
@@ -15,7 +16,7 @@ use Rattle.encoding.specs.Ranges.{AllBytes, AllWords}
 use Rattle.memory.specs.Fetch.{fetchRefusal, fetched, InTarget, targetByte}
 use Rattle.frames.specs.Record.{Record, memory, encodeAll, AllWellFormed}
 use Rattle.frames.specs.Frame.{encodeFrame}
-use Rattle.verdict.specs.Verdict.{accepted, verdict, verdictOf}
+use Rattle.verdict.specs.Verdict.{accepted, verdict, verdictOf, SetsNothing}
 use Rattle.verdict.specs.Acceptance.{MostIs}
 use Rattle.verdict.proofs.Promises as verifying
 use Rattle.machine.specs.Fed.{Fed, fed}
@@ -50,6 +51,7 @@ use Rattle.lilivrez_agent.proofs.lilivrez_count as lilivrez-count
 use Rattle.lilivrez_agent.proofs.lilivrez_locate as lilivrez-locate
 use Rattle.lilivrez_agent.proofs.lilivrez_walk as lilivrez-walk
 use Rattle.verifier.proofs.verify as verify
+use Rattle.verifier.proofs.verify_noting as verify-noting
 use Rattle.memory.proofs.fetch as fetch
 use Rattle.memory.proofs.fetch_refusal as fetch-refusal
 use Rattle.runner.proofs.run as run
@@ -124,6 +126,10 @@ module _ {M : Type 1} where
   -- the entries behind them, for code of the same toolchain
   pub verify-answers : Answers M verify.ended verify.Symbol.routine (λ _ (expression, _) r _. verdictOf r ≡ verdict (now expression))
   verify-answers = verify.Met.met
+
+  pub verify-noting-answers : Answers M verify-noting.ended verify-noting.Symbol.routine
+      (λ _ (expression, _) r _. (verdictOf (r .answer) ≡ verdict (now expression)) × (r .sets ≡ false → SetsNothing (now expression)))
+  verify-noting-answers = verify-noting.Met.met
 
   pub fetch-answers : Answers M fetch.ended fetch.Symbol.routine
       (λ _ (image-first, (image, (work-first, (work, (address, (size, _)))))) r _. now r ≡ fetched image-first (now image) work-first (now work) address size)
