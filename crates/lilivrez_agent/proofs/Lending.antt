@@ -7,10 +7,13 @@ use Prim.Native.Nat.{ℕ, _+_, _-_, _≤_, _<_}
 use native.Mathlib.Omega.{arith}
 use lib.ListN.{length, take, drop}
 use lib.Dec.{ltb}
-use borrow.Author.Tests.{eq-eqb, ne-eqb, lt-ltb, le-ltb}
-use Rattle.memory.specs.Fetch.{holdsRange, readable, whichever, fetchRefusal, fetched}
-use Rattle.memory.proofs.Promises.{holds-means, fetch-0, readable-means}
-use Rattle.lilivrez_agent.specs.Lent.{spanOf, lentAt}
+use borrow.Author.Tests.{eq-eqb, ne-eqb, lt-ltb, le-ltb, lt-leb}
+use Rattle.encoding.proofs.Promises.{no-true}
+use Rattle.memory.specs.Spans.{spansRefusal, cleared}
+use Rattle.memory.specs.Fetch.{holdsRange, readable, whichever, fetchRefusal, fetched, restOf, heldAt}
+use Rattle.memory.specs.declared.Held.the-variants.{InImage, InWork}
+use Rattle.memory.proofs.Promises.{holds-means, means-holds, fetch-0, readable-means, rest-refusal, held-image, held-work}
+use Rattle.lilivrez_agent.specs.Lent.{spanOf, lentAt, stored}
 
 none-of : (t : Bool) (x : ℕ × ℕ) → cond (t && false) x (0, 0) ≡ (0, 0)
 none-of true x = refl
@@ -43,9 +46,6 @@ module _ (f : ℕ) (image : List ℕ) (g : ℕ) (work : List ℕ) (a k : ℕ) wh
     unfolding readable
     other-holds h = rw h at (readable-means f image g work a k s .1 (fetch-0 f image g work a k .0 z .1 s))
 
-    pub work-before : holdsRange f (length image) a k ≡ false → g ≤ a
-    work-before h = holds-means g (length work) a k (other-holds h) .0
-
     fetched-by : fetched f image g work a k ≡ whichever f image g work a k (λ first bytes. take k (drop (a - first) bytes)) []
     unfolding fetched
     fetched-by = rw (eq-eqb (fetchRefusal f image g work a k) 0 z)
@@ -62,3 +62,38 @@ module _ (f : ℕ) (image : List ℕ) (g : ℕ) (work : List ℕ) (a k : ℕ) wh
     lent-within =
         by-span (λ h. rw (lent-image h) (omega (arith, holds-means f (length image) a k h)))
         (λ h. rw (lent-work h) (omega (arith, holds-means g (length work) a k (other-holds h))))
+
+  -- ---- by the span that holds the address
+  module _ (fine : spansRefusal f image g work ≡ 0) where
+    pub nothing-lent : k ≡ 0 → (0 ≡ fetchRefusal f image g work a k) × (cleared ≡ stored (lentAt f image g work a k))
+    nothing-lent e = (sym (fetch-0 f image g work a k .1 (fine, λ s. absurd (omega arith))), ap stored (sym (lent-empty e)))
+
+    module _ (s : 1 ≤ k) where
+      fetched-where : readable f image g work a k ≡ true → fetchRefusal f image g work a k ≡ 0
+      fetched-where r = fetch-0 f image g work a k .1 (fine, λ _. readable-means f image g work a k s .0 r)
+
+      pub image-lent : {i : ℕ} → InImage i ≡ heldAt f image g work a → k ≤ length image - i
+          → (0 ≡ fetchRefusal f image g work a k) × (1 ∷ i ∷ [] ≡ stored (lentAt f image g work a k))
+      unfolding readable
+      image-lent p h =
+          let o = held-image f image g work a p in
+          let t : holdsRange f (length image) a k ≡ true = let w = holds-means f (length image) a 1 (o .0) in means-holds f (length image) a k (w .0) (omega (arith, w .1, o .1)) in
+          let z = fetched-where (rw t) in
+          (sym z, rw (lent-image z s t, o .1))
+
+      pub work-lent : {i : ℕ} → InWork i ≡ heldAt f image g work a → k ≤ length work - i
+          → (0 ≡ fetchRefusal f image g work a k) × (2 ∷ i ∷ [] ≡ stored (lentAt f image g work a k))
+      unfolding readable
+      work-lent p h =
+          let o = held-work f image g work a p in
+          let n : holdsRange f (length image) a k ≡ false =
+          by-test (holdsRange f (length image) a k) (λ t. let w = holds-means f (length image) a k t in no-true (sym (o .0) ∙ means-holds f (length image) a 1 (w .0) (omega (arith, w .1)))) (λ t. t) in
+          let t : holdsRange g (length work) a k ≡ true = let w = holds-means g (length work) a 1 (o .1) in means-holds g (length work) a k (w .0) (omega (arith, w .1, o .2)) in
+          let z = fetched-where (rw (n, t)) in
+          (sym z, rw (lent-work z s n, o .2))
+
+    -- the bytes from the address on are too few
+    pub none-lent : length (restOf f image g work a) < k → (19 ≡ fetchRefusal f image g work a k) × (cleared ≡ stored (lentAt f image g work a k))
+    none-lent h =
+        let z = rest-refusal f image g work fine a k ∙ rw (lt-leb k (length (restOf f image g work a)) h) in
+        (sym z, ap stored (sym (lent-refused (λ e. omega (arith, e, z)))))

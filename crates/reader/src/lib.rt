@@ -50,10 +50,10 @@ fn frame_before(buffer: &[u8], end: usize) -> Place
     requires { ⌜ end ≤ length (now buffer) ⌝ }
     ensures { λ r. ⌜ locatedOf r ≡ frameBefore (now (buffer .entry)) end ⌝ }
 {
-    if end == 0 {
-        return Place::NoFrame(24, 0);
-    }
     if end < frames::trailer::TRAILER_SIZE {
+        if end == 0 {
+            return Place::NoFrame(24, 0);
+        }
         return Place::NoFrame(22, end);
     }
     let closed = end - frames::trailer::TRAILER_SIZE;
@@ -87,30 +87,34 @@ pub fn locate(buffer: &[u8], used: usize, number: u64) -> Place
     }
     let mut end = used;
     let mut left = number;
-    while 0 < left {
+    loop {
         match frame_before(buffer, end) {
             Place::NoFrame(refusal, offset) => {
                 return Place::NoFrame(refusal, offset);
             }
             Place::Frame(tracepoint, start, length) => {
+                if left == 0 {
+                    return Place::Frame(tracepoint, start, length);
+                }
                 end = start;
                 left -= 1;
             }
         }
     }
-    frame_before(buffer, end)
 }
 
 // ---- the records of a frame
 // Divides bytes into records, and notes the offset of record number `wanted`.
 fn divide(bytes: &[u8], wanted: u64) -> Split
-    ensures { λ r. ⌜ r ≡ splitOf wanted (division (now (bytes .entry))) ⌝ }
+    ensures { λ r. ⌜ r ≡ splitOf (length (now (bytes .entry))) wanted (division (now (bytes .entry))) ⌝ }
 {
     let mut at = 0;
+    let mut left = bytes.len();
     let mut count = 0;
-    let mut found = 0;
-    while at < bytes.len() {
-        let size = frames::record_size(&bytes[at..]);
+    let mut found = bytes.len();
+    while 0 < left {
+        let end = at + left;
+        let size = frames::record_size(&bytes[at..end]);
         if size == 0 {
             return Split::BrokenAt(at);
         }
@@ -118,6 +122,7 @@ fn divide(bytes: &[u8], wanted: u64) -> Split
             found = at;
         }
         at += size;
+        left -= size;
         count += 1;
     }
     Split::Whole(count, found)
@@ -131,7 +136,7 @@ fn read_in(bytes: &[u8], tracepoint: u16, start: usize, index: u64) -> Reading
     match divide(bytes, index) {
         Split::BrokenAt(offset) => Reading::NoReading(23, start + offset),
         Split::Whole(count, found) => {
-            if count as u64 <= index {
+            if found == bytes.len() {
                 return Reading::NoReading(25, start);
             }
             match frames::read_record(&bytes[found..]) {
