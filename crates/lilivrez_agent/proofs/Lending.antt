@@ -2,17 +2,16 @@
 use mathlib.Core.Bool.{Bool, true, false, cond, _&&_}
 use mathlib.Core.List.{List, [], _∷_}
 use mathlib.Core.Logic.{_≢_}
-use mathlib.Core.Path.{_≡_, refl, sym, _∙_}
+use mathlib.Core.Path.{_≡_, refl, ap, sym, _∙_}
 use Prim.Native.Nat.{ℕ, _+_, _-_, _≤_, _<_}
 use native.Mathlib.Omega.{arith}
 use lib.ListN.{length, take, drop}
 use lib.Dec.{ltb}
 use borrow.Author.Tests.{eq-eqb, ne-eqb, lt-ltb, le-ltb, lt-leb}
-use Rattle.encoding.proofs.Promises.{no-true}
 use Rattle.memory.specs.Spans.{spansRefusal, cleared}
 use Rattle.memory.specs.Fetch.{holdsRange, readable, whichever, fetchRefusal, fetched, restOf, heldAt}
 use Rattle.memory.specs.declared.Held.the-variants.{InImage, InWork}
-use Rattle.memory.proofs.Promises.{holds-means, means-holds, fetch-0, readable-means, rest-refusal, held-image, held-work}
+use Rattle.memory.proofs.Promises.{holds-means, means-holds, fetch-first, fetch-0, readable-means, rest-refusal, held-image, held-work}
 use Rattle.lilivrez_agent.specs.Lent.{spanOf, lentAt, stored}
 
 none-of : (t : Bool) (x : ℕ × ℕ) → cond (t && false) x (0, 0) ≡ (0, 0)
@@ -22,6 +21,9 @@ none-of false x = refl
 by-test : (t : Bool) {X : Type 0} → (t ≡ true → X) → (t ≡ false → X) → X
 by-test true x y = x refl
 by-test false x y = y refl
+
+not-both : {t : Bool} {X : Type 0} → t ≡ false → t ≡ true → X
+not-both p q = absurd (let z : _≡_ {A = ℕ} 0 1 = cc in omega arith)
 
 module _ (f : ℕ) (image : List ℕ) (g : ℕ) (work : List ℕ) (a k : ℕ) where
   pub lent-refused : fetchRefusal f image g work a k ≢ 0 → lentAt f image g work a k ≡ (0, 0)
@@ -63,7 +65,11 @@ module _ (f : ℕ) (image : List ℕ) (g : ℕ) (work : List ℕ) (a k : ℕ) wh
         by-span (λ h. rw (lent-image h) (omega (arith, holds-means f (length image) a k h)))
         (λ h. rw (lent-work h) (omega (arith, holds-means g (length work) a k (other-holds h))))
 
-  -- ---- by the span that holds the address
+  -- ---- the ways out of the code: 12 or 13, then by the span that holds the address
+  pub spans-refused : {r : ℕ} → r ≡ spansRefusal f image g work → r ≢ 0 → (r ≡ fetchRefusal f image g work a k) × (cleared ≡ stored (lentAt f image g work a k))
+  spans-refused {r} e h =
+      let p : r ≡ fetchRefusal f image g work a k = e ∙ sym (fetch-first f image g work a k (λ z. h (e ∙ z))) in (p, ap stored (sym (lent-refused (λ z. h (p ∙ z)))))
+
   module _ (fine : spansRefusal f image g work ≡ 0) where
     pub nothing-lent : k ≡ 0 → (0 ≡ fetchRefusal f image g work a k) × (cleared ≡ stored (lentAt f image g work a k))
     nothing-lent e = (sym (fetch-0 f image g work a k .1 (fine, λ s. absurd (omega arith))), ap stored (sym (lent-empty e)))
@@ -87,7 +93,7 @@ module _ (f : ℕ) (image : List ℕ) (g : ℕ) (work : List ℕ) (a k : ℕ) wh
       work-lent p h =
           let o = held-work f image g work a p in
           let n : holdsRange f (length image) a k ≡ false =
-          by-test (holdsRange f (length image) a k) (λ t. let w = holds-means f (length image) a k t in no-true (sym (o .0) ∙ means-holds f (length image) a 1 (w .0) (omega (arith, w .1)))) (λ t. t) in
+          by-test (holdsRange f (length image) a k) (λ t. let w = holds-means f (length image) a k t in not-both (o .0) (means-holds f (length image) a 1 (w .0) (omega (arith, w .1)))) (λ t. t) in
           let t : holdsRange g (length work) a k ≡ true = let w = holds-means g (length work) a 1 (o .1) in means-holds g (length work) a k (w .0) (omega (arith, w .1, o .2)) in
           let z = fetched-where (rw (n, t)) in
           (sym z, rw (lent-work z s n, o .2))
@@ -95,5 +101,5 @@ module _ (f : ℕ) (image : List ℕ) (g : ℕ) (work : List ℕ) (a k : ℕ) wh
     -- the bytes from the address on are too few
     pub none-lent : length (restOf f image g work a) < k → (19 ≡ fetchRefusal f image g work a k) × (cleared ≡ stored (lentAt f image g work a k))
     none-lent h =
-        let z = rest-refusal f image g work fine a k ∙ rw (lt-leb k (length (restOf f image g work a)) h) in
+        let z : fetchRefusal f image g work a k ≡ 19 = rest-refusal f image g work fine a k ∙ rw (lt-leb k (length (restOf f image g work a)) h) in
         (sym z, ap stored (sym (lent-refused (λ e. omega (arith, e, z)))))

@@ -44,15 +44,15 @@ pub extern "C" fn lilivrez_fetch<'a>(
         return 0;
     }
     match memory::holder(image_first, image, work_first, work, address) {
-        Held::InImage(at) => {
-            if size <= image.len() as u64 - at {
-                *out = [1, at];
+        Held::InImage(in_image) => {
+            if size <= image.len() as u64 - in_image {
+                *out = [1, in_image];
                 return 0;
             }
         }
-        Held::InWork(at) => {
-            if size <= work.len() as u64 - at {
-                *out = [2, at];
+        Held::InWork(in_work) => {
+            if size <= work.len() as u64 - in_work {
+                *out = [2, in_work];
                 return 0;
             }
         }

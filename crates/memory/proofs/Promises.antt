@@ -106,6 +106,12 @@ module _ (f : ℕ) (image : List ℕ) (g : ℕ) (work : List ℕ) where
     pub held-work : InWork i ≡ heldAt f image g work a → (holdsRange f (length image) a 1 ≡ false) × (holdsRange g (length work) a 1 ≡ true) × (i ≡ a - g)
     held-work = fetching.held-work f image g work a
 
+    pub image-index : InImage i ≡ heldAt f image g work a → i < length image
+    image-index = fetching.image-index f image g work a
+
+    pub work-index : InWork i ≡ heldAt f image g work a → i < length work
+    work-index = fetching.work-index f image g work a
+
     -- and how many bytes there are from the address on
     pub image-rest : InImage i ≡ heldAt f image g work a → length (restOf f image g work a) ≡ length image - i
     image-rest = fetching.length-in-image f image g work a

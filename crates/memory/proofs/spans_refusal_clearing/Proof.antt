@@ -26,17 +26,19 @@ returns-3 : tie.Need-returns-3
 returns-3 c =
     let i = c .before in
     let s = i .before .before in
-    let e = s .before .before .before in
-    (spans-share _ _ _ _ (sym (e .before .ends-past .ensures .0) ∙ e .if1 .left) (sym (s .before .ends-past2 .ensures .0) ∙ s .if2 .left) (sym (i .share-address .ensures .0) ∙ c .if3 .taken),
-    λ _. i .share-address .ensures .1 (c .if3 .taken))
+    let e = s .before .before .before in (
+      spans-share _ _ _ _ (sym (e .before .ends-past .ensures .0) ∙ e .if1 .left) (sym (s .before .ends-past2 .ensures .0) ∙ s .if2 .left) (sym (i .share-address .ensures .0) ∙ c .if3 .taken),
+      λ _. i .share-address .ensures .1 (c .if3 .taken),
+    )
 
 returns-4 : tie.Need-returns-4
 returns-4 c =
     let i = c .before in
     let s = i .before .before in
-    let e = s .before .before .before in
-    (spans-none _ _ _ _ (sym (e .before .ends-past .ensures .0) ∙ e .if1 .left) (sym (s .before .ends-past2 .ensures .0) ∙ s .if2 .left) (sym (i .share-address .ensures .0) ∙ c .if3 .left),
-    λ n. absurd (n refl))
+    let e = s .before .before .before in (
+      spans-none _ _ _ _ (sym (e .before .ends-past .ensures .0) ∙ e .if1 .left) (sym (s .before .ends-past2 .ensures .0) ∙ s .if2 .left) (sym (i .share-address .ensures .0) ∙ c .if3 .left),
+      λ n. absurd (n refl),
+    )
 
 pub spans-refusal-clearing-spec : {M : Type 1} → statement M
 spans-refusal-clearing-spec =

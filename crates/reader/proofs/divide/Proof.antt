@@ -66,11 +66,13 @@ loop-less c = omega arith
 
 loop-again : tie.Need-loop-again Inv-loop μ-loop
 loop-again c =
-    let w = c .before .before .before .before .before .loop .inv .1 in
-    (omega (arith, through-fits w (omega arith) (sized (c .before .before))), ⊎-elim
-    (λ p. through-here w (omega arith) (sized (c .before .before)) (omega arith) (p .0 .taken) (p .1))
-    (λ p. through-other w (omega arith) (sized (c .before .before)) (omega arith) (p .0 .left) (p .1))
-    (c .if2 .came))
+    let w = c .before .before .before .before .before .loop .inv .1 in (
+      omega (arith, through-fits w (omega arith) (sized (c .before .before))),
+      ⊎-elim
+          (λ p. through-here w (omega arith) (sized (c .before .before)) (omega arith) (p .0 .taken) (p .1))
+          (λ p. through-other w (omega arith) (sized (c .before .before)) (omega arith) (p .0 .left) (p .1))
+          (c .if2 .came),
+    )
 
 returns-2 : tie.Need-returns-2 Inv-loop μ-loop
 returns-2 c = through-ends (c .before .loop .inv .1) (omega arith)
