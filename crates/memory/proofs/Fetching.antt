@@ -12,7 +12,6 @@ use borrow.Author.Tests.{eq-eqb, ne-eqb, lt-ltb, le-ltb, le-leb, lt-leb, leb-tru
 use Rattle.encoding.proofs.Promises.{cases, no-true}
 use Rattle.memory.specs.Spans.{InSpan, spanTests, spansRefusal}
 use Rattle.memory.specs.Fetch.{holdsRange, readable, fetchRefusal, whichever, fetched, InTarget, targetByte, restOf, heldAt, Within, Readable, PartOf}
-use Rattle.memory.specs.declared.Held.{Held}
 use Rattle.memory.specs.declared.Held.the-variants.{InImage, InWork, Nowhere}
 use Rattle.memory.proofs.Choosing.{cond-elim, zero-cases, tried-first, tried-then}
 use Rattle.memory.proofs.Testing.{holds-yes, holds-not, holds-true, holds-false, wrapped-in, wrapped-out}

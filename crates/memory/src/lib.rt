@@ -1,17 +1,17 @@
 // Target memory: two spans of lent bytes, what is read there, and the search for a zero byte.
-// Sums of addresses could wrap: addresses are compared by differences.
+// Sums of addresses could wrap: they are compared by differences, or it is told by the sum that it has wrapped.
 ghost use mathlib.Core.Path.{_≡_};
 ghost use mathlib.Core.Bool.{true};
 ghost use mathlib.Core.Logic.{_≢_};
 ghost use Prim.Native.Nat.{_+_, _-_, _≤_, min};
-ghost use lib.ListN.{length, take, drop};
+ghost use lib.ListN.{length};
 ghost use Rattle.memory.specs.Spans.{endsPast, shareAddress, spansRefusal, cleared};
 ghost use Rattle.memory.specs.Fetch.{fetchRefusal, fetched, restOf, heldAt};
 ghost use Rattle.memory.specs.FirstZero.{soughtOf, searched, Looked, Passed};
 
 // ---- refusals 12 and 13
-// Where a test may refuse, `place` is cleared first. A caller that stores there has the test in a branch of its own,
-// which spans that are fine do not enter: without a store the compiler joins it to the test before, for every span.
+// Where a span may be refused, `place` is cleared before the last test: the store keeps that test in a branch of its
+// own, which other spans do not enter. Without a store the compiler makes both tests of every span.
 
 // Whether first + len exceeds 2^64: the sum modulo 2^64 is then below `first`, and not 0.
 fn ends_past(first: u64, len: u64, place: &mut [u64; 2]) -> bool
@@ -51,7 +51,8 @@ pub fn spans_refusal_clearing(
     work: &[u8],
     place: &mut [u64; 2],
 ) -> u8
-    ensures { λ r. ⌜ (r ≡ spansRefusal «image_first» (now (image .entry)) «work_first» (now (work .entry))) × (r ≢ 0 → now (place .exit) ≡ cleared) ⌝ }
+    ensures number { λ r. ⌜ r ≡ spansRefusal «image_first» (now (image .entry)) «work_first» (now (work .entry)) ⌝ }
+    ensures clears { λ r. ⌜ (r ≢ 0 → now (place .exit) ≡ cleared) ⌝ }
 {
     let image_len = image.len() as u64;
     let work_len = work.len() as u64;
@@ -67,7 +68,7 @@ pub fn spans_refusal_clearing(
     0
 }
 
-// The same alone.
+// The same for a caller that has nothing to clear.
 pub fn spans_refusal(image_first: u64, image: &[u8], work_first: u64, work: &[u8]) -> u8
     ensures { λ r. ⌜ r ≡ spansRefusal «image_first» (now (image .entry)) «work_first» (now (work .entry)) ⌝ }
 {

@@ -28,7 +28,8 @@ pub enum Count {
     NoCount(u8, usize),
 }
 
-// The number of records and the offset of the one asked for; or the offset of the first that is broken.
+// The number of records, and the offset of the one asked for or the length of the bytes; or the offset of the first
+// that is broken.
 pub enum Split {
     Whole(usize, usize),
     BrokenAt(usize),
@@ -50,6 +51,7 @@ fn frame_before(buffer: &[u8], end: usize) -> Place
     requires { ⌜ end ≤ length (now buffer) ⌝ }
     ensures { λ r. ⌜ locatedOf r ≡ frameBefore (now (buffer .entry)) end ⌝ }
 {
+    // One test for a frame that is long enough, and two refusals behind it.
     if end < frames::trailer::TRAILER_SIZE {
         if end == 0 {
             return Place::NoFrame(24, 0);
@@ -104,7 +106,8 @@ pub fn locate(buffer: &[u8], used: usize, number: u64) -> Place
 }
 
 // ---- the records of a frame
-// Divides bytes into records, and notes the offset of record number `wanted`.
+// Divides bytes into records, and notes the offset of record number `wanted`. The bytes left are counted beside the
+// offset, so that neither is computed from the other at each record.
 fn divide(bytes: &[u8], wanted: u64) -> Split
     ensures { λ r. ⌜ r ≡ splitOf (length (now (bytes .entry))) wanted (division (now (bytes .entry))) ⌝ }
 {

@@ -1,4 +1,4 @@
-use Prim.Native.Nat.{_<_}
+use Prim.Native.Nat.{_+_, _≤_, _<_}
 use mathlib.Core.Path.{_≡_, ap, sym, _∙_}
 use native.Mathlib.Omega.{arith}
 use lib.ListN.{length, drop}
@@ -41,6 +41,15 @@ item c =
     rw (part-lent (now (c .before .before .before .before .before .before .before .before .args .bytes)) (c .before .before .before .before .count .given .0 .1 .0))
     at (c .read-record .ensures)
 
+-- a memory record's header ends within the buffer
+header : (c : tie.After-known-told3) →
+    let e = c .before .before .before .before .before in
+    e .before .before .before .before .before .before .args .start + e .before .before .count .given .0 .1 .0 + 11 ≤ 65536
+header c =
+    let e = c .before .before .before .before .before in
+    let h = header-inside _ _ (whole (e .before)) (asked e) (item (c .before .before .before)) (c .before .address .given .1) in
+    omega (arith, h, e .before .before .before .before .before .before .pre)
+
 divide-requires : tie.Need-divide-requires
 divide-requires c κs = search needs
 
@@ -75,10 +84,10 @@ enum-known-address : tie.Need-enum-known-address
 enum-known-address c = search needs
 
 add-t22 : tie.Need-add-t22
-add-t22 c = record { fits = omega (arith, c .before .before .before .before .before .before .before .before .before .before .before .pre, header-inside _ _ (whole (c .before .before .before .before .before .before)) (asked (c .before .before .before .before .before)) (item (c .before .before .before)) (c .before .address .given .1)) }
+add-t22 c = record { fits = omega (arith, header c) }
 
 add-t23 : tie.Need-add-t23
-add-t23 c = record { fits = omega (arith, c .before .before .before .before .before .before .before .before .before .before .before .pre, header-inside _ _ (whole (c .before .before .before .before .before .before)) (asked (c .before .before .before .before .before)) (item (c .before .before .before)) (c .before .address .given .1)) }
+add-t23 c = record { fits = omega (arith, header c) }
 
 enum-known-number : tie.Need-enum-known-number
 enum-known-number c = search needs
@@ -87,10 +96,14 @@ returns-2 : tie.Need-returns-2
 returns-2 c = ap (readDivided _ _ _) (sym (cut c))
 
 returns-3 : tie.Need-returns-3
-returns-3 c = memory-read _ _ (whole (c .before .before .before .before .before .before)) (asked (c .before .before .before .before .before)) (item (c .before .before .before)) (c .before .address .given .1) _ _
+returns-3 c =
+    let e = c .before .before .before .before .before in
+    memory-read _ _ (whole (e .before)) (asked e) (item (c .before .before .before)) (c .before .address .given .1) _ _
 
 returns-4 : tie.Need-returns-4
-returns-4 c = variable-read _ _ (whole (c .before .before .before .before .before .before)) (asked (c .before .before .before .before .before)) (item (c .before .before .before)) (c .before .number .given .1) _ _
+returns-4 c =
+    let e = c .before .before .before .before .before in
+    variable-read _ _ (whole (e .before)) (asked e) (item (c .before .before .before)) (c .before .number .given .1) _ _
 
 pub read-in-spec : {M : Type 1} → statement M
 read-in-spec =
