@@ -89,10 +89,11 @@ fn memory_size(bytes: &[u8]) -> usize
     if count == 0 {
         return 0;
     }
-    if bytes.len() - MEMORY_HEADER < count {
+    let size = MEMORY_HEADER + count;
+    if bytes.len() < size {
         return 0;
     }
-    MEMORY_HEADER + count
+    size
 }
 
 fn variable_size(bytes: &[u8]) -> usize

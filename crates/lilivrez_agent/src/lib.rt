@@ -11,6 +11,7 @@ ghost use Rattle.reader.specs.Read.{reading, counting};
 ghost use Rattle.lilivrez_agent.specs.Lent.{lentAt, stored};
 ghost use Rattle.lilivrez_agent.specs.Told.{Told, ToldRun};
 ghost use Rattle.lilivrez_agent.specs.Frames.{readNumber, readValues, countNumber, countValues, placeNumber, placeValues, walkValues};
+use memory::Held;
 use reader::Count;
 use reader::Place;
 use reader::Reading;
@@ -20,7 +21,8 @@ use runner::Value;
 // ---- target memory
 
 // Where the `size` bytes at `address` are. Returns the number of the refusal, or 0. Stores the number of the span that
-// lends them (0 none, 1 program image, 2 working memory) and the place of the first of them in that span.
+// lends them (0 none, 1 program image, 2 working memory) and the place of the first of them in that span. Every way
+// out stores both: nothing is stored before it is known which.
 #[no_mangle]
 pub extern "C" fn lilivrez_fetch<'a>(
     image_first: u64,
@@ -34,20 +36,31 @@ pub extern "C" fn lilivrez_fetch<'a>(
     ensures number { λ r. ⌜ r ≡ fetchRefusal «image_first» (now (image .entry)) «work_first» (now (work .entry)) address size ⌝ }
     ensures values { λ _. ⌜ now (out .exit) ≡ stored (lentAt «image_first» (now (image .entry)) «work_first» (now (work .entry)) address size) ⌝ }
 {
-    *out = [0, 0];
-    let number = memory::fetch_refusal(image_first, image, work_first, work, address, size);
+    let number = memory::spans_refusal_clearing(image_first, image, work_first, work, out);
     if number != 0 {
         return number as u32;
     }
     if size == 0 {
+        *out = [0, 0];
         return 0;
     }
-    if memory::holds_range(image_first, image.len() as u64, address, size) {
-        *out = [1, address - image_first];
-        return 0;
+    match memory::holder(image_first, image, work_first, work, address) {
+        Held::InImage(in_image) => {
+            if size <= image.len() as u64 - in_image {
+                *out = [1, in_image];
+                return 0;
+            }
+        }
+        Held::InWork(in_work) => {
+            if size <= work.len() as u64 - in_work {
+                *out = [2, in_work];
+                return 0;
+            }
+        }
+        Held::Nowhere => {}
     }
-    *out = [2, address - work_first];
-    0
+    *out = [0, 0];
+    19
 }
 
 // ---- runs

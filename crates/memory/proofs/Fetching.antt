@@ -1,4 +1,4 @@
--- Refusal 19 and the fetch: the case laws of `fetch_refusal`, `fetch` and `rest`, and what their answers say.
+-- Refusal 19 and the fetch: the case laws of `holder`, `rest`, `fetch_refusal` and `fetch`, and what their answers say.
 use mathlib.Core.Bool.{Bool, true, false, cond, not, _&&_}
 use mathlib.Core.List.{List, [], _∷_}
 use mathlib.Core.Logic.{_↔_, _≢_, _⊎_, inl, inr, ⊎-elim}
@@ -11,7 +11,8 @@ use lib.Seq.{take-all, getD-take, getD-drop, ext-getD}
 use borrow.Author.Tests.{eq-eqb, ne-eqb, lt-ltb, le-ltb, le-leb, lt-leb, leb-true}
 use Rattle.encoding.proofs.Promises.{cases, no-true}
 use Rattle.memory.specs.Spans.{InSpan, spanTests, spansRefusal}
-use Rattle.memory.specs.Fetch.{holdsRange, readable, fetchRefusal, whichever, fetched, InTarget, targetByte, restOf, Within, Readable, PartOf}
+use Rattle.memory.specs.Fetch.{holdsRange, readable, fetchRefusal, whichever, fetched, InTarget, targetByte, restOf, heldAt, Within, Readable, PartOf}
+use Rattle.memory.specs.declared.Held.the-variants.{InImage, InWork, Nowhere}
 use Rattle.memory.proofs.Choosing.{cond-elim, zero-cases, tried-first, tried-then}
 use Rattle.memory.proofs.Testing.{holds-yes, holds-not, holds-true, holds-false, wrapped-in, wrapped-out}
 use Rattle.memory.proofs.Spanning.{spans-pass, spans-most, spans-0}
@@ -51,6 +52,22 @@ part-byte : (f : ℕ) (l : List ℕ) (a k : ℕ) (part : List ℕ) → PartOf f 
 part-byte f l a k part w i h =
     let e : a - f + i ≡ a + i - f = omega (arith, w .within 0 (omega arith)) in
     rw (w .same, getD-take k (drop (a - f) l) i 0 h, getD-drop, e)
+
+-- ---- which of the two tests held
+is-image : (s t : Bool) (x y : ℕ) {i : ℕ} → InImage i ≡ cond s (InImage x) (cond t (InWork y) Nowhere) → (s ≡ true) × (i ≡ x)
+is-image true t x y p = (refl, cc)
+is-image false true x y p = absurd (let z : _≡_ {A = ℕ} 0 1 = cc in omega arith)
+is-image false false x y p = absurd (let z : _≡_ {A = ℕ} 0 1 = cc in omega arith)
+
+is-work : (s t : Bool) (x y : ℕ) {i : ℕ} → InWork i ≡ cond s (InImage x) (cond t (InWork y) Nowhere) → (s ≡ false) × (t ≡ true) × (i ≡ y)
+is-work true t x y p = absurd (let z : _≡_ {A = ℕ} 0 1 = cc in omega arith)
+is-work false true x y p = (refl, refl, cc)
+is-work false false x y p = absurd (let z : _≡_ {A = ℕ} 0 1 = cc in omega arith)
+
+is-nowhere : (s t : Bool) (x y : ℕ) → Nowhere ≡ cond s (InImage x) (cond t (InWork y) Nowhere) → (s ≡ false) × (t ≡ false)
+is-nowhere true t x y p = absurd (let z : _≡_ {A = ℕ} 0 1 = cc in omega arith)
+is-nowhere false true x y p = absurd (let z : _≡_ {A = ℕ} 0 1 = cc in omega arith)
+is-nowhere false false x y p = (refl, refl)
 
 module _ (f : ℕ) (image : List ℕ) (g : ℕ) (work : List ℕ) where
   -- whichever span holds the range
@@ -205,24 +222,65 @@ module _ (f : ℕ) (image : List ℕ) (g : ℕ) (work : List ℕ) where
     unfolding restOf
     rest-none h s = sym (rw (h, s))
 
-  -- found by the difference w of the address and the first one of the image, or x of the working memory, modulo 2^64
+  -- ---- the span that holds an address, found by the difference w of the address and the first one of the image, or x of the working memory, modulo 2^64
   module _ (fine : spansRefusal f image g work ≡ 0) {a w : ℕ} (e : (w + f) % 2 ^ 64 ≡ a) where
-    pub rest-in-image : w < length image → take (length image - w) (drop w image) ≡ restOf f image g work a
-    rest-in-image h =
-        let o = wrapped-in f (length image) a w (spans-0 f image g work .0 fine .image-fits) e h in
-        rest-whole w image ∙ ap (λ (i : ℕ). drop i image) (o .0) ∙ rest-image a (o .1)
+    pub found-in-image : w < length image → InImage w ≡ heldAt f image g work a
+    unfolding heldAt
+    found-in-image h =
+        let o = wrapped-in f (length image) a w (spans-0 f image g work .0 fine .image-fits) e h in rw (o .1, ← (o .0))
 
     module _ (b : w < 2 ^ 64) (h : length image ≤ w) where
       not-image : holdsRange f (length image) a 1 ≡ false
       not-image = wrapped-out f (length image) a w (spans-0 f image g work .0 fine .image-fits) e b h
 
-      pub rest-in-work : {x : ℕ} → (x + g) % 2 ^ 64 ≡ a → x < length work → take (length work - x) (drop x work) ≡ restOf f image g work a
-      rest-in-work {x} d s =
-          let o = wrapped-in g (length work) a x (spans-0 f image g work .0 fine .work-fits) d s in
-          rest-whole x work ∙ ap (λ (i : ℕ). drop i work) (o .0) ∙ rest-work a not-image (o .1)
+      pub found-in-work : {x : ℕ} → (x + g) % 2 ^ 64 ≡ a → x < length work → InWork x ≡ heldAt f image g work a
+      unfolding heldAt
+      found-in-work {x} d s =
+          let o = wrapped-in g (length work) a x (spans-0 f image g work .0 fine .work-fits) d s in rw (not-image, o .1, ← (o .0))
 
-      pub rest-in-none : {x : ℕ} → (x + g) % 2 ^ 64 ≡ a → x < 2 ^ 64 → length work ≤ x → [] ≡ restOf f image g work a
-      rest-in-none {x} d l s = rest-none a not-image (wrapped-out g (length work) a x (spans-0 f image g work .0 fine .work-fits) d l s)
+      pub found-nowhere : {x : ℕ} → (x + g) % 2 ^ 64 ≡ a → x < 2 ^ 64 → length work ≤ x → Nowhere ≡ heldAt f image g work a
+      unfolding heldAt
+      found-nowhere {x} d l s = rw (not-image, wrapped-out g (length work) a x (spans-0 f image g work .0 fine .work-fits) d l s)
+
+  -- what the answer says
+  module _ (a : ℕ) {i : ℕ} where
+    pub held-image : InImage i ≡ heldAt f image g work a → (holdsRange f (length image) a 1 ≡ true) × (i ≡ a - f)
+    unfolding heldAt
+    held-image = is-image (holdsRange f (length image) a 1) (holdsRange g (length work) a 1) (a - f) (a - g)
+
+    pub held-work : InWork i ≡ heldAt f image g work a → (holdsRange f (length image) a 1 ≡ false) × (holdsRange g (length work) a 1 ≡ true) × (i ≡ a - g)
+    unfolding heldAt
+    held-work = is-work (holdsRange f (length image) a 1) (holdsRange g (length work) a 1) (a - f) (a - g)
+
+    -- and so the bytes from the address on
+    pub image-index : InImage i ≡ heldAt f image g work a → i < length image
+    image-index p = let o = held-image p in omega (arith, o .1, holds-true f (length image) a 1 (o .0))
+
+    pub work-index : InWork i ≡ heldAt f image g work a → i < length work
+    work-index p = let o = held-work p in omega (arith, o .2, holds-true g (length work) a 1 (o .1))
+
+    pub rest-in-image : InImage i ≡ heldAt f image g work a → take (length image - i) (drop i image) ≡ restOf f image g work a
+    rest-in-image p = let o = held-image p in rest-whole i image ∙ ap (λ (j : ℕ). drop j image) (o .1) ∙ rest-image a (o .0)
+
+    pub length-in-image : InImage i ≡ heldAt f image g work a → length (restOf f image g work a) ≡ length image - i
+    length-in-image p = rw (← (rest-in-image p)) (simp (length-take, length-drop) (omega arith))
+
+    pub rest-in-work : InWork i ≡ heldAt f image g work a → take (length work - i) (drop i work) ≡ restOf f image g work a
+    rest-in-work p = let o = held-work p in rest-whole i work ∙ ap (λ (j : ℕ). drop j work) (o .2) ∙ rest-work a (o .0) (o .1)
+
+    pub length-in-work : InWork i ≡ heldAt f image g work a → length (restOf f image g work a) ≡ length work - i
+    length-in-work p = rw (← (rest-in-work p)) (simp (length-take, length-drop) (omega arith))
+
+  module _ (a : ℕ) where
+    pub held-nowhere : Nowhere ≡ heldAt f image g work a → (holdsRange f (length image) a 1 ≡ false) × (holdsRange g (length work) a 1 ≡ false)
+    unfolding heldAt
+    held-nowhere = is-nowhere (holdsRange f (length image) a 1) (holdsRange g (length work) a 1) (a - f) (a - g)
+
+    pub rest-nowhere : Nowhere ≡ heldAt f image g work a → [] ≡ restOf f image g work a
+    rest-nowhere p = let o = held-nowhere p in rest-none a (o .0) (o .1)
+
+    pub length-nowhere : Nowhere ≡ heldAt f image g work a → length (restOf f image g work a) ≡ 0
+    length-nowhere p = rw (← (rest-nowhere p))
 
   module _ (fine : spansRefusal f image g work ≡ 0) (a : ℕ) where
     apart : (x : ℕ) → InSpan f (length image) x → InSpan g (length work) x → ⊥

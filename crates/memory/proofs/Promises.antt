@@ -9,7 +9,8 @@ use Prim.Native.Nat.{ℕ, _+_, _-_, _≤_, _<_, _^_}
 use lib.Dec.{leb}
 use lib.ListN.{length, take, getD}
 use Rattle.memory.specs.Spans.{InSpan, shareAddress, spansRefusal, FineSpans}
-use Rattle.memory.specs.Fetch.{holdsRange, readable, fetchRefusal, fetched, InTarget, targetByte, restOf, Readable, PartOf}
+use Rattle.memory.specs.Fetch.{holdsRange, readable, fetchRefusal, fetched, InTarget, targetByte, restOf, heldAt, Readable, PartOf}
+use Rattle.memory.specs.declared.Held.the-variants.{InImage, InWork, Nowhere}
 use Rattle.memory.specs.FirstZero.{Sought, up-to-zero, all-of-size, cut-short, searched, FirstZero, NoneInSize, EndedBefore, Says}
 use Rattle.memory.proofs.Testing as testing
 use Rattle.memory.proofs.Spanning as spanning
@@ -20,6 +21,9 @@ use Rattle.memory.proofs.Searching as searching
 -- a span of n bytes at f that holds a range begins no later and ends no earlier
 pub holds-means : (f n a k : ℕ) → holdsRange f n a k ≡ true → (f ≤ a) × (a + k ≤ f + n)
 holds-means = testing.holds-true
+
+pub means-holds : (f n a k : ℕ) → f ≤ a → a + k ≤ f + n → holdsRange f n a k ≡ true
+means-holds = testing.holds-yes
 
 -- ---- refusals 12 and 13
 -- the test for a shared address holds exactly if some address lies in both spans
@@ -93,6 +97,30 @@ module _ (f : ℕ) (image : List ℕ) (g : ℕ) (work : List ℕ) where
     -- and all of them are bytes of one span, which holds every one of the addresses
     pub fetched-part : fetchRefusal f image g work a k ≡ 0 → 1 ≤ k → PartOf f image a k (fetched f image g work a k) ⊎ PartOf g work a k (fetched f image g work a k)
     fetched-part = fetching.fetched-part f image g work a k
+
+  -- ---- the span that holds an address, and the index of its byte there: what each answer says
+  module _ (a : ℕ) {i : ℕ} where
+    pub held-image : InImage i ≡ heldAt f image g work a → (holdsRange f (length image) a 1 ≡ true) × (i ≡ a - f)
+    held-image = fetching.held-image f image g work a
+
+    pub held-work : InWork i ≡ heldAt f image g work a → (holdsRange f (length image) a 1 ≡ false) × (holdsRange g (length work) a 1 ≡ true) × (i ≡ a - g)
+    held-work = fetching.held-work f image g work a
+
+    pub image-index : InImage i ≡ heldAt f image g work a → i < length image
+    image-index = fetching.image-index f image g work a
+
+    pub work-index : InWork i ≡ heldAt f image g work a → i < length work
+    work-index = fetching.work-index f image g work a
+
+    -- and how many bytes there are from the address on
+    pub image-rest : InImage i ≡ heldAt f image g work a → length (restOf f image g work a) ≡ length image - i
+    image-rest = fetching.length-in-image f image g work a
+
+    pub work-rest : InWork i ≡ heldAt f image g work a → length (restOf f image g work a) ≡ length work - i
+    work-rest = fetching.length-in-work f image g work a
+
+  pub nowhere-rest : (a : ℕ) → Nowhere ≡ heldAt f image g work a → length (restOf f image g work a) ≡ 0
+  nowhere-rest = fetching.length-nowhere f image g work
 
   -- ---- the bytes from an address to the end of its span, where neither 12 nor 13 is met: all that ref, trace and
   -- tracenz read

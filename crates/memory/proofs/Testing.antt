@@ -1,13 +1,14 @@
--- What each test of the code says of addresses, and the case laws of `ends_past`, `share_address` and `holds_range`.
+-- What each test of the code says of addresses, and the case laws of `ends_past` and `share_address`.
 use mathlib.Core.Path.{_≡_, refl, sym, _∙_}
-use mathlib.Core.Bool.{Bool, true, false, _&&_}
+use mathlib.Core.Bool.{Bool, true, false, not, _&&_}
 use Prim.Native.Nat.{ℕ, suc, _<_, _≤_, _+_, _-_, _%_, _^_, min, max}
 use native.Mathlib.Omega.{arith}
-use lib.Dec.{ltb, leb}
-use borrow.Author.Tests.{lt-ltb, le-ltb, ltb-true, ltb-false, le-leb, lt-leb, leb-true, leb-false}
+use lib.Dec.{ltb, leb, eqb}
+use borrow.Author.Tests.{lt-ltb, le-ltb, ltb-true, ltb-false, le-leb, lt-leb, leb-true, leb-false, eq-eqb, ne-eqb}
 use Rattle.encoding.proofs.Promises.{cases, no-true}
 use Rattle.memory.specs.Spans.{endsPast, shareAddress}
 use Rattle.memory.specs.Fetch.{holdsRange}
+use Rattle.memory.proofs.Choosing.{zero-cases}
 
 -- ---- two tests agree where each follows from the other
 leb-same : (a b c d : ℕ) → (a ≤ b → c ≤ d) → (b < a → d < c) → leb a b ≡ leb c d
@@ -26,9 +27,10 @@ module _ (f n : ℕ) where
   unfolding endsPast
   past-not = le-ltb (2 ^ 64) (f + n)
 
-  pub past-by : f < 2 ^ 64 → 0 < n → ltb (2 ^ 64 - 1 - f) (n - 1) ≡ endsPast f n
-  unfolding endsPast
-  past-by h s = ltb-same (2 ^ 64 - 1 - f) (n - 1) (2 ^ 64) (f + n) (λ x. omega arith) (λ x. omega arith)
+  -- by the sum modulo 2^64, where it is below f
+  pub past-by : {e : ℕ} → e ≡ (f + n) % 2 ^ 64 → f < 2 ^ 64 → n < 2 ^ 64 → e < f → not (eqb e 0) ≡ endsPast f n
+  past-by {e} q h s t =
+      zero-cases e (λ z. rw (eq-eqb e 0 z) (sym (past-not (omega arith)))) (λ z. rw (ne-eqb e 0 z) (sym (past-yes (omega arith))))
 
   pub past-true : endsPast f n ≡ true → 2 ^ 64 < f + n
   unfolding endsPast
@@ -40,17 +42,18 @@ module _ (f n : ℕ) where
 
 -- ---- 13
 module _ (f n g m : ℕ) where
-  pub share-empty : min n m ≡ 0 → false ≡ shareAddress f n g m
+  -- a span whose first address lies in the other shares it, unless it is empty
+  pub share-up : f ≤ g → g - f < n → ltb 0 m ≡ shareAddress f n g m
   unfolding shareAddress
-  share-empty h = sym (le-ltb (max f g) (min (f + n) (g + m)) (omega arith))
+  share-up h s = ltb-same 0 m (max f g) (min (f + n) (g + m)) (λ x. omega arith) (λ x. omega arith)
 
-  pub share-up : 0 < m → f ≤ g → ltb (g - f) n ≡ shareAddress f n g m
+  pub share-down : g < f → f - g < m → ltb 0 n ≡ shareAddress f n g m
   unfolding shareAddress
-  share-up s h = ltb-same (g - f) n (max f g) (min (f + n) (g + m)) (λ x. omega arith) (λ x. omega arith)
+  share-down h s = ltb-same 0 n (max f g) (min (f + n) (g + m)) (λ x. omega arith) (λ x. omega arith)
 
-  pub share-down : 0 < n → g < f → ltb (f - g) m ≡ shareAddress f n g m
+  pub share-not : min (f + n) (g + m) ≤ max f g → false ≡ shareAddress f n g m
   unfolding shareAddress
-  share-down s h = ltb-same (f - g) m (max f g) (min (f + n) (g + m)) (λ x. omega arith) (λ x. omega arith)
+  share-not h = sym (le-ltb (max f g) (min (f + n) (g + m)) h)
 
   pub share-true : shareAddress f n g m ≡ true → max f g < min (f + n) (g + m)
   unfolding shareAddress
@@ -73,10 +76,6 @@ module _ (f n a k : ℕ) where
   pub holds-not : (f ≤ a → f + n < a + k) → holdsRange f n a k ≡ false
   unfolding holdsRange
   holds-not h = cases a f (λ s. simp (lt-leb f a s)) (λ s. simp (le-leb f a s, lt-leb (a + k) (f + n) (h s)))
-
-  pub holds-by : f ≤ a → a - f ≤ n → leb k (n - (a - f)) ≡ holdsRange f n a k
-  unfolding holdsRange
-  holds-by h s = simp (le-leb f a h) (leb-same k (n - (a - f)) (a + k) (f + n) (λ x. omega arith) (λ x. omega arith))
 
   pub holds-true : holdsRange f n a k ≡ true → (f ≤ a) × (a + k ≤ f + n)
   unfolding holdsRange

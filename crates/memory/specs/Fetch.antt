@@ -9,6 +9,8 @@ use lib.ListN.{length, take, drop, getD}
 use lib.Dec.{leb, ltb, eqb}
 use Rattle.encoding.specs.Tried.{tried}
 use Rattle.memory.specs.Spans.{InSpan, spanTests}
+use Rattle.memory.specs.declared.Held.{Held}
+use Rattle.memory.specs.declared.Held.the-variants.{InImage, InWork, Nowhere}
 
 -- all of the range lies in the span of n bytes at f; a + k is a number without bound, since "addresses never wrap"
 unfoldable pub holdsRange : ℕ → ℕ → ℕ → ℕ → Bool
@@ -47,6 +49,11 @@ targetByte f image g work x = whichever f image g work x 1 (λ first bytes. getD
 -- the bytes from the address a to the end of the span that holds it, for use where neither 12 nor 13 is met
 unfoldable pub restOf : ℕ → List ℕ → ℕ → List ℕ → ℕ → List ℕ
 restOf f image g work a = whichever f image g work a 1 (λ first bytes. drop (a - first) bytes) []
+
+-- the span that holds the address a, and the index of its byte there
+unfoldable pub heldAt : ℕ → List ℕ → ℕ → List ℕ → ℕ → Held
+heldAt f image g work a =
+    cond (holdsRange f (length image) a 1) (InImage (a - f)) (cond (holdsRange g (length work) a 1) (InWork (a - g)) Nowhere)
 
 -- ---- the same of each address, with no sum: every one of the k addresses from a on lies in the span
 abbrev pub Within : ℕ → ℕ → ℕ → ℕ → Type 0

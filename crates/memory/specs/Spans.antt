@@ -27,6 +27,10 @@ spanTests f image g work = (endsPast f (length image), 12) ∷ (endsPast g (leng
 unfoldable pub spansRefusal : ℕ → List ℕ → ℕ → List ℕ → ℕ
 spansRefusal f image g work = tried (spanTests f image g work)
 
+-- a place of two numbers in which nothing is told
+abbrev pub cleared : List ℕ
+cleared = 0 ∷ 0 ∷ []
+
 -- Spans that are met with neither, in the words of document 01
 pub record FineSpans (f : ℕ) (image : List ℕ) (g : ℕ) (work : List ℕ) : Type 0 where
   pub image-fits : f + length image ≤ 2 ^ 64

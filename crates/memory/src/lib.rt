@@ -1,76 +1,109 @@
 // Target memory: two spans of lent bytes, what is read there, and the search for a zero byte.
-// Sums of addresses could wrap: addresses are compared by differences.
+// Sums of addresses could wrap: they are compared by differences, or it is told by the sum that it has wrapped.
 ghost use mathlib.Core.Path.{_≡_};
 ghost use mathlib.Core.Bool.{true};
+ghost use mathlib.Core.Logic.{_≢_};
 ghost use Prim.Native.Nat.{_+_, _-_, _≤_, min};
-ghost use lib.ListN.{length, take, drop};
-ghost use Rattle.memory.specs.Spans.{endsPast, shareAddress, spansRefusal};
-ghost use Rattle.memory.specs.Fetch.{holdsRange, fetchRefusal, fetched, restOf};
+ghost use lib.ListN.{length};
+ghost use Rattle.memory.specs.Spans.{endsPast, shareAddress, spansRefusal, cleared};
+ghost use Rattle.memory.specs.Fetch.{fetchRefusal, fetched, restOf, heldAt};
 ghost use Rattle.memory.specs.FirstZero.{soughtOf, searched, Looked, Passed};
 
-// Whether first + len exceeds 2^64.
-fn ends_past(first: u64, len: u64) -> bool
-    ensures { λ r. ⌜ r ≡ endsPast first len ⌝ }
+// ---- refusals 12 and 13
+// Where a span may be refused, `place` is cleared before the last test: the store keeps that test in a branch of its
+// own, which other spans do not enter. Without a store the compiler makes both tests of every span.
+
+// Whether first + len exceeds 2^64: the sum modulo 2^64 is then below `first`, and not 0.
+fn ends_past(first: u64, len: u64, place: &mut [u64; 2]) -> bool
+    ensures { λ r. ⌜ (r ≡ endsPast first len) × (r ≡ true → now (place .exit) ≡ cleared) ⌝ }
 {
-    if len == 0 {
-        return false;
+    let end = std::num::wrapping_add_u64(first, len);
+    if end < first {
+        *place = [0, 0];
+        return end != 0;
     }
-    u64::MAX - first < len - 1
+    false
 }
 
 // Whether a span of n bytes at f and one of m bytes at g share an address.
-fn share_address(f: u64, n: u64, g: u64, m: u64) -> bool
-    ensures { λ r. ⌜ r ≡ shareAddress f n g m ⌝ }
+fn share_address(f: u64, n: u64, g: u64, m: u64, place: &mut [u64; 2]) -> bool
+    ensures { λ r. ⌜ (r ≡ shareAddress f n g m) × (r ≡ true → now (place .exit) ≡ cleared) ⌝ }
 {
-    if n == 0 {
-        return false;
-    }
-    if m == 0 {
-        return false;
-    }
     if f <= g {
-        return g - f < n;
+        if g - f < n {
+            *place = [0, 0];
+            return 0 < m;
+        }
+        return false;
     }
-    f - g < m
+    if f - g < m {
+        *place = [0, 0];
+        return 0 < n;
+    }
+    false
 }
 
-// 12 or 13, or 0 where neither is met.
-pub fn spans_refusal(image_first: u64, image: &[u8], work_first: u64, work: &[u8]) -> u8
-    ensures { λ r. ⌜ r ≡ spansRefusal «image_first» (now (image .entry)) «work_first» (now (work .entry)) ⌝ }
+// 12 or 13, or 0 where neither is met. A refusal clears `place`.
+pub fn spans_refusal_clearing(
+    image_first: u64,
+    image: &[u8],
+    work_first: u64,
+    work: &[u8],
+    place: &mut [u64; 2],
+) -> u8
+    ensures number { λ r. ⌜ r ≡ spansRefusal «image_first» (now (image .entry)) «work_first» (now (work .entry)) ⌝ }
+    ensures clears { λ r. ⌜ (r ≢ 0 → now (place .exit) ≡ cleared) ⌝ }
 {
-    if ends_past(image_first, image.len() as u64) {
+    let image_len = image.len() as u64;
+    let work_len = work.len() as u64;
+    if ends_past(image_first, image_len, place) {
         return 12;
     }
-    if ends_past(work_first, work.len() as u64) {
+    if ends_past(work_first, work_len, place) {
         return 12;
     }
-    if share_address(
-        image_first,
-        image.len() as u64,
-        work_first,
-        work.len() as u64,
-    ) {
+    if share_address(image_first, image_len, work_first, work_len, place) {
         return 13;
     }
     0
 }
 
-// Whether all of the `size` bytes at `address` lie in the span of `len` bytes at `first`.
-pub fn holds_range(first: u64, len: u64, address: u64, size: u64) -> bool
-    ensures { λ r. ⌜ r ≡ holdsRange first len address size ⌝ }
+// The same for a caller that has nothing to clear.
+pub fn spans_refusal(image_first: u64, image: &[u8], work_first: u64, work: &[u8]) -> u8
+    ensures { λ r. ⌜ r ≡ spansRefusal «image_first» (now (image .entry)) «work_first» (now (work .entry)) ⌝ }
 {
-    if address < first {
-        return false;
+    let mut place = [0, 0];
+    spans_refusal_clearing(image_first, image, work_first, work, &mut place)
+}
+
+// ---- what is read
+
+// The span that holds an address, with the index of its byte there.
+pub enum Held {
+    InImage(u64),
+    InWork(u64),
+    Nowhere,
+}
+
+// Where an address is. No span ends past 2^64, so that one comparison, of the difference modulo 2^64, tells whether a
+// span holds it.
+pub fn holder(image_first: u64, image: &[u8], work_first: u64, work: &[u8], address: u64) -> Held
+    requires { ⌜ spansRefusal «image_first» (now image) «work_first» (now work) ≡ 0 ⌝ }
+    ensures { λ r. ⌜ r ≡ heldAt «image_first» (now (image .entry)) «work_first» (now (work .entry)) address ⌝ }
+{
+    let in_image = std::num::wrapping_sub_u64(address, image_first);
+    if in_image < image.len() as u64 {
+        return Held::InImage(in_image);
     }
-    if len < address - first {
-        return false;
+    let in_work = std::num::wrapping_sub_u64(address, work_first);
+    if in_work < work.len() as u64 {
+        return Held::InWork(in_work);
     }
-    size <= len - (address - first)
+    Held::Nowhere
 }
 
 // The bytes from `address` to the end of the span that holds it; none where no span does: all that `fetch` and the
-// instructions lend. No span ends past 2^64, so that one comparison, of the difference modulo 2^64, tells whether a
-// span holds the address.
+// instructions lend.
 pub fn rest<'a>(
     image_first: u64,
     image: &'a [u8],
@@ -81,15 +114,11 @@ pub fn rest<'a>(
     requires { ⌜ spansRefusal «image_first» (now image) «work_first» (now work) ≡ 0 ⌝ }
     ensures { λ r. ⌜ now r ≡ restOf «image_first» (now (image .entry)) «work_first» (now (work .entry)) address ⌝ }
 {
-    let in_image = std::num::wrapping_sub_u64(address, image_first);
-    if in_image < image.len() as u64 {
-        return &image[in_image as usize..];
+    match holder(image_first, image, work_first, work, address) {
+        Held::InImage(at) => &image[at as usize..],
+        Held::InWork(at) => &work[at as usize..],
+        Held::Nowhere => &image[..0],
     }
-    let in_work = std::num::wrapping_sub_u64(address, work_first);
-    if in_work < work.len() as u64 {
-        return &work[in_work as usize..];
-    }
-    &image[..0]
 }
 
 // Why `fetch` lends nothing: 12, 13 or 19, or 0 where it is not refused.

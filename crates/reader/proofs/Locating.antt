@@ -134,7 +134,15 @@ module _ (l : List ℕ) (used number : ℕ) where
   unfolding located
   back-begins h k = record { same = rw (unfit-by l used (λ x. omega arith) (λ x. omega arith)); within = k; small = h }
 
+refused-back : (l : List ℕ) (n end : ℕ) {r k : ℕ} → refused r k ≡ frameBefore l end → refused r k ≡ frameBack l n end
+unfolding frameBack
+refused-back l zero end e = e
+refused-back l (suc n) end e = ap (older (λ s. frameBack l n s)) e
+
 module _ {l : List ℕ} {used number end left : ℕ} (b : Back l used number end left) where
+  pub back-refused : {r k : ℕ} → refused r k ≡ frameBefore l end → refused r k ≡ located l used number
+  back-refused e = refused-back l left end e ∙ sym (b .same)
+
   pub back-last : left ≡ 0 → frameBefore l end ≡ located l used number
   unfolding frameBack
   back-last e = sym (b .same ∙ ap (λ n. frameBack l n end) e)
@@ -143,16 +151,12 @@ module _ {l : List ℕ} {used number end left : ℕ} (b : Back l used number end
   unfolding frameBack
   one-back h = let q : left ≡ suc (left - 1) = omega arith in b .same ∙ ap (λ n. frameBack l n end) q
 
-  module _ (h : 0 < left) where
-    pub back-refused : {r k : ℕ} → refused r k ≡ frameBefore l end → refused r k ≡ located l used number
-    back-refused e = sym (one-back h ∙ ap (older (λ s. frameBack l (left - 1) s)) (sym e))
-
-    pub back-again : {t s n : ℕ} → frame t s n ≡ frameBefore l end → Back l used number s (left - 1)
-    back-again e = record {
-      same = one-back h ∙ ap (older (λ s. frameBack l (left - 1) s)) (sym e);
-      within = omega (arith, frame-end l end e, b .within);
-      small = b .small;
-    }
+  pub back-again : 0 < left → {t s n : ℕ} → frame t s n ≡ frameBefore l end → Back l used number s (left - 1)
+  back-again h e = record {
+    same = one-back h ∙ ap (older (λ s. frameBack l (left - 1) s)) (sym e);
+    within = omega (arith, frame-end l end e, b .within);
+    small = b .small;
+  }
 
 -- ---- what is known of a frame that was located: it ends where the walk began, or before
 unfoldable pub Upto : ℕ → Located → Type 0

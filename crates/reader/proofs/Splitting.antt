@@ -6,6 +6,7 @@ use native.Mathlib.Nat.{zero-add, add-zero, add-assoc, not-suc-le-zero}
 use native.Mathlib.Omega.{arith}
 use lib.ListN.{length, drop, length-append, length-drop, drop-of-length-le}
 use lib.Seq.{drop-drop}
+use Rattle.encoding.proofs.Promises.{cases}
 use Rattle.frames.specs.Record.{Record, memory, variable, size, encode, encodeAll, found, decode}
 use Rattle.frames.specs.Division.{Division, records, brokenAt, after, afterAll, divide}
 use Rattle.frames.specs.Reading.{sizeOf, itemOf, Tells}
@@ -17,16 +18,21 @@ use Rattle.reader.specs.Answers.{offsetIn, splitOf}
 use Rattle.reader.specs.declared.Split.the-variants.{Whole, BrokenAt}
 
 -- ---- the offset of a record, with one more record behind
-offset-last : (o : ℕ) (rs : List Record) (r : Record) → offsetIn o (length rs) (rs ++ (r ∷ [])) ≡ o + length (encodeAll rs)
+offset-last : (n o : ℕ) (rs : List Record) (r : Record) → offsetIn n o (length rs) (rs ++ (r ∷ [])) ≡ o + length (encodeAll rs)
 unfolding encodeAll
-offset-last o [] r = sym (add-zero o)
-offset-last o (q ∷ rs) r = offset-last (o + size q) rs r ∙ rw (length-append (encode q) (encodeAll rs), length-encode q, add-assoc)
+offset-last n o [] r = sym (add-zero o)
+offset-last n o (q ∷ rs) r = offset-last n (o + size q) rs r ∙ rw (length-append (encode q) (encodeAll rs), length-encode q, add-assoc)
 
-offset-other : (o i : ℕ) (rs : List Record) (r : Record) → (length rs ≡ i → ⊥) → offsetIn o i (rs ++ (r ∷ [])) ≡ offsetIn o i rs
-offset-other o zero [] r h = absurd (h refl)
-offset-other o (suc i) [] r h = refl
-offset-other o zero (q ∷ rs) r h = refl
-offset-other o (suc i) (q ∷ rs) r h = offset-other (o + size q) i rs r (λ e. h (ap suc e))
+offset-other : (n o i : ℕ) (rs : List Record) (r : Record) → (length rs ≡ i → ⊥) → offsetIn n o i (rs ++ (r ∷ [])) ≡ offsetIn n o i rs
+offset-other n o zero [] r h = absurd (h refl)
+offset-other n o (suc i) [] r h = refl
+offset-other n o zero (q ∷ rs) r h = refl
+offset-other n o (suc i) (q ∷ rs) r h = offset-other n (o + size q) i rs r (λ e. h (ap suc e))
+
+offset-none : (n o i : ℕ) (rs : List Record) → length rs ≤ i → offsetIn n o i rs ≡ n
+offset-none n o i [] h = refl
+offset-none n o zero (q ∷ rs) h = absurd (not-suc-le-zero h)
+offset-none n o (suc i) (q ∷ rs) h = offset-none n (o + size q) i rs (omega arith)
 
 -- ---- the loop: the records before `at`
 pub record Through (l : List ℕ) (wanted at count seen : ℕ) : Type 0 where
@@ -36,21 +42,21 @@ pub record Through (l : List ℕ) (wanted at count seen : ℕ) : Type 0 where
   pub inside : at ≤ length l
   pub counts : count ≡ length passed
   pub few : count ≤ at
-  pub offset : seen ≡ offsetIn 0 wanted passed
+  pub offset : seen ≡ offsetIn (length l) 0 wanted passed
 
-pub through-begins : (l : List ℕ) (wanted : ℕ) → Through l wanted 0 0 0
+pub through-begins : (l : List ℕ) (wanted : ℕ) → Through l wanted 0 0 (length l)
 unfolding encodeAll
 through-begins l wanted = record { passed = []; same = refl; place = refl; inside = omega arith; counts = refl; few = omega arith; offset = refl }
 
 module _ {l : List ℕ} {wanted at count seen : ℕ} (w : Through l wanted at count seen) where
-  pub through-ends : length l ≤ at → Whole count seen ≡ splitOf wanted (divide l)
+  pub through-ends : length l ≤ at → Whole count seen ≡ splitOf (length l) wanted (divide l)
   through-ends h =
       let all : divide l ≡ records (w .passed) =
       w .same ∙ ap (λ t. afterAll (w .passed) (divide t)) (drop-of-length-le l {i = at} h) ∙ ap (afterAll (w .passed)) divide-nothing ∙ after-all-nothing (w .passed) in
       rw (all, w .counts, w .offset)
 
   module _ (h : at < length l) {n : ℕ} (e : n ≡ sizeOf (decode (drop at l))) where
-    pub through-broken : n ≡ 0 → BrokenAt at ≡ splitOf wanted (divide l)
+    pub through-broken : n ≡ 0 → BrokenAt at ≡ splitOf (length l) wanted (divide l)
     through-broken z =
         by-size (decode (drop at l))
         (λ b s. let all : divide l ≡ brokenAt (length (encodeAll (w .passed)) + 0) =
@@ -63,7 +69,7 @@ module _ {l : List ℕ} {wanted at count seen : ℕ} (w : Through l wanted at co
         by-size (decode (drop at l)) (λ b s. omega arith) (λ r f s. omega (arith, found-fits (drop at l) f, s, length-drop at l))
 
     Noted : ℕ → Type 0
-    Noted x = (r : Record) → x ≡ offsetIn 0 wanted (w .passed ++ (r ∷ []))
+    Noted x = (r : Record) → x ≡ offsetIn (length l) 0 wanted (w .passed ++ (r ∷ []))
 
     more : {x : ℕ} → Noted x → (r : Record) → decode (drop at l) ≡ found r → n ≡ size r → Through l wanted (at + n) (count + 1) x
     unfolding Noted
@@ -85,19 +91,19 @@ module _ {l : List ℕ} {wanted at count seen : ℕ} (w : Through l wanted at co
     pub through-here : (n ≡ 0 → ⊥) → count ≡ wanted → {x : ℕ} → x ≡ at → Through l wanted (at + n) (count + 1) x
     unfolding Noted
     through-here z p q = more-by z λ r.
-        q ∙ w .place ∙ sym (zero-add (length (encodeAll (w .passed)))) ∙ sym (offset-last 0 (w .passed) r)
-        ∙ ap (λ i. offsetIn 0 i (w .passed ++ (r ∷ []))) (sym (w .counts) ∙ p)
+        q ∙ w .place ∙ sym (zero-add (length (encodeAll (w .passed)))) ∙ sym (offset-last (length l) 0 (w .passed) r)
+        ∙ ap (λ i. offsetIn (length l) 0 i (w .passed ++ (r ∷ []))) (sym (w .counts) ∙ p)
 
     pub through-other : (n ≡ 0 → ⊥) → (count ≡ wanted → ⊥) → {x : ℕ} → x ≡ seen → Through l wanted (at + n) (count + 1) x
     unfolding Noted
-    through-other z p q = more-by z λ r. q ∙ w .offset ∙ sym (offset-other 0 wanted (w .passed) r (λ e. p (w .counts ∙ e)))
+    through-other z p q = more-by z λ r. q ∙ w .offset ∙ sym (offset-other (length l) 0 wanted (w .passed) r (λ e. p (w .counts ∙ e)))
 
 -- ---- the record of a number
 -- it is found at its offset, and what is read of it is told from there
 pub record Numbered (l : List ℕ) (i : ℕ) (rs : List Record) (o : ℕ) : Type 0 where
   pub which : Record
-  pub there : decode (drop (offsetIn o i rs) l) ≡ found which
-  pub tells : (t s : ℕ) → recordRead t s (s + o) i rs ≡ told t (s + offsetIn o i rs) which
+  pub there : decode (drop (offsetIn (length l) o i rs) l) ≡ found which
+  pub tells : (t s : ℕ) → recordRead t s (s + o) i rs ≡ told t (s + offsetIn (length l) o i rs) which
 
 pub numbered : (l : List ℕ) (o i : ℕ) (rs : List Record) → divide (drop o l) ≡ records rs → i < length rs → Numbered l i rs o
 numbered l o i [] e h = absurd (not-suc-le-zero h)
@@ -113,22 +119,23 @@ unnumbered t s o zero (r ∷ rs) h = absurd (not-suc-le-zero h)
 unnumbered t s o (suc i) (r ∷ rs) h = unnumbered t s (o + size r) i rs (omega arith)
 
 -- ---- what the code's answer says
-split-whole : (i : ℕ) (d : Division) {n o : ℕ} → Whole n o ≡ splitOf i d → (rs : List Record) × (d ≡ records rs) × (n ≡ length rs) × (o ≡ offsetIn 0 i rs)
-split-whole i (records rs) e = (rs, refl, cc, cc)
-split-whole i (brokenAt k) e = absurd (let z : _≡_ {A = ℕ} 0 1 = cc in omega arith)
+split-whole : (m i : ℕ) (d : Division) {n o : ℕ} → Whole n o ≡ splitOf m i d → (rs : List Record) × (d ≡ records rs) × (n ≡ length rs) × (o ≡ offsetIn m 0 i rs)
+split-whole m i (records rs) e = (rs, refl, cc, cc)
+split-whole m i (brokenAt k) e = absurd (let z : _≡_ {A = ℕ} 0 1 = cc in omega arith)
 
-pub split-broken : (i : ℕ) (d : Division) {k : ℕ} → BrokenAt k ≡ splitOf i d → d ≡ brokenAt k
-split-broken i (records rs) e = absurd (let z : _≡_ {A = ℕ} 0 1 = cc in omega arith)
-split-broken i (brokenAt k) e = ap brokenAt (cc)
+pub split-broken : (m i : ℕ) (d : Division) {k : ℕ} → BrokenAt k ≡ splitOf m i d → d ≡ brokenAt k
+split-broken m i (records rs) e = absurd (let z : _≡_ {A = ℕ} 0 1 = cc in omega arith)
+split-broken m i (brokenAt k) e = ap brokenAt (cc)
 
-module _ (l : List ℕ) (i : ℕ) {n o : ℕ} (e : Whole n o ≡ splitOf i (divide l)) where
-  pub none-read : (t s : ℕ) → n ≤ i → refusedRead 25 s ≡ readDivided t s i (divide l)
-  none-read t s h =
-      let w = split-whole i (divide l) e in
-      unnumbered t s s i (w .0) (omega (arith, w .2)) ∙ ap (readDivided t s i) (sym (w .1))
+module _ (l : List ℕ) (i : ℕ) {n o : ℕ} (e : Whole n o ≡ splitOf (length l) i (divide l)) where
+  -- a record that there is has an offset below the length
+  pub is-there : (o ≡ length l → ⊥) → i < n
+  is-there h =
+      let w = split-whole (length l) i (divide l) e in
+      cases i n (λ t. t) (λ t. absurd (h (w .3 ∙ offset-none (length l) 0 i (w .0) (omega (arith, w .2)))))
 
   pub counts-records : (t s k : ℕ) → counted t s k n ≡ countDivided t s k (divide l)
-  counts-records t s k = let w = split-whole i (divide l) e in ap (counted t s k) (w .2) ∙ ap (countDivided t s k) (sym (w .1))
+  counts-records t s k = let w = split-whole (length l) i (divide l) e in ap (counted t s k) (w .2) ∙ ap (countDivided t s k) (sym (w .1))
 
   -- the record of number i stands at o
   pub record Chosen : Type 0 where
@@ -140,7 +147,7 @@ module _ (l : List ℕ) (i : ℕ) {n o : ℕ} (e : Whole n o ≡ splitOf i (divi
 
   pub one-read : i < n → Chosen
   one-read h =
-      let w = split-whole i (divide l) e in
+      let w = split-whole (length l) i (divide l) e in
       let c = numbered l 0 i (w .0) (w .1) (omega (arith, w .2)) in
       let there : decode (drop o l) ≡ found (c .which) = ap (λ k. decode (drop k l)) (w .3) ∙ c .there in
       record {
@@ -150,6 +157,12 @@ module _ (l : List ℕ) (i : ℕ) {n o : ℕ} (e : Whole n o ≡ splitOf i (divi
         some = rw there (found-fits (drop o l) there .0);
         tells = λ t s. ap (λ k. told t (s + k) (c .which)) (w .3) ∙ sym (c .tells t s) ∙ ap (λ k. recordRead t s k i (w .0)) (add-zero s) ∙ ap (readDivided t s i) (sym (w .1));
       }
+
+  pub none-read : o ≡ length l → (t s : ℕ) → refusedRead 25 s ≡ readDivided t s i (divide l)
+  none-read h t s =
+      let w = split-whole (length l) i (divide l) e in
+      cases i n (λ k. let c = one-read k in absurd (omega (arith, c .inside, found-fits (drop o l) (c .there))))
+      (λ k. unnumbered t s s i (w .0) (omega (arith, w .2)) ∙ ap (readDivided t s i) (sym (w .1)))
 
 -- ---- what the item says of the record
 told-memory : (t o : ℕ) (r : Record) {a n : ℕ} → Memory a n ≡ itemOf r → memoryRead t a n (o + 11) ≡ told t o r
@@ -164,7 +177,7 @@ memory-long : (r : Record) {a n : ℕ} → Memory a n ≡ itemOf r → 11 ≤ si
 memory-long (memory a bytes) e = omega arith
 memory-long (variable k x) e = omega arith
 
-module _ (l : List ℕ) (i : ℕ) {n o : ℕ} (e : Whole n o ≡ splitOf i (divide l)) (h : i < n) {x : Item} (y : Tells x (decode (drop o l))) where
+module _ (l : List ℕ) (i : ℕ) {n o : ℕ} (e : Whole n o ≡ splitOf (length l) i (divide l)) (h : i < n) {x : Item} (y : Tells x (decode (drop o l))) where
   pub memory-read : {a k : ℕ} → x ≡ Memory a k → (t s : ℕ) → memoryRead t a k (s + o + 11) ≡ readDivided t s i (divide l)
   memory-read q t s =
       let c = one-read l i e h in

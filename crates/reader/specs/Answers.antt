@@ -28,12 +28,12 @@ abbrev pub countedOf : Count → Counted
 countedOf (Records tracepoint start long n) = counted tracepoint start long n
 countedOf (NoCount r k) = refusedCount r k
 
--- ---- between `divide` and its callers: the number of records, and the offset of record number i (0 where there is none)
-abbrev pub offsetIn : ℕ → ℕ → List Record → ℕ
-offsetIn o i [] = 0
-offsetIn o zero (r ∷ rs) = o
-offsetIn o (suc i) (r ∷ rs) = offsetIn (o + size r) i rs
+-- ---- between `divide` and its callers: the number of records, and the offset of record number i (n where there is none)
+abbrev pub offsetIn : ℕ → ℕ → ℕ → List Record → ℕ
+offsetIn n o i [] = n
+offsetIn n o zero (r ∷ rs) = o
+offsetIn n o (suc i) (r ∷ rs) = offsetIn n (o + size r) i rs
 
-abbrev pub splitOf : ℕ → Division → Split
-splitOf i (records rs) = Whole (length rs) (offsetIn 0 i rs)
-splitOf i (brokenAt k) = BrokenAt k
+abbrev pub splitOf : ℕ → ℕ → Division → Split
+splitOf n i (records rs) = Whole (length rs) (offsetIn n 0 i rs)
+splitOf n i (brokenAt k) = BrokenAt k

@@ -28,7 +28,8 @@ pub enum Count {
     NoCount(u8, usize),
 }
 
-// The number of records and the offset of the one asked for; or the offset of the first that is broken.
+// The number of records, and the offset of the one asked for or the length of the bytes; or the offset of the first
+// that is broken.
 pub enum Split {
     Whole(usize, usize),
     BrokenAt(usize),
@@ -50,10 +51,11 @@ fn frame_before(buffer: &[u8], end: usize) -> Place
     requires { ⌜ end ≤ length (now buffer) ⌝ }
     ensures { λ r. ⌜ locatedOf r ≡ frameBefore (now (buffer .entry)) end ⌝ }
 {
-    if end == 0 {
-        return Place::NoFrame(24, 0);
-    }
+    // One test for a frame that is long enough, and two refusals behind it.
     if end < frames::trailer::TRAILER_SIZE {
+        if end == 0 {
+            return Place::NoFrame(24, 0);
+        }
         return Place::NoFrame(22, end);
     }
     let closed = end - frames::trailer::TRAILER_SIZE;
@@ -87,30 +89,35 @@ pub fn locate(buffer: &[u8], used: usize, number: u64) -> Place
     }
     let mut end = used;
     let mut left = number;
-    while 0 < left {
+    loop {
         match frame_before(buffer, end) {
             Place::NoFrame(refusal, offset) => {
                 return Place::NoFrame(refusal, offset);
             }
             Place::Frame(tracepoint, start, length) => {
+                if left == 0 {
+                    return Place::Frame(tracepoint, start, length);
+                }
                 end = start;
                 left -= 1;
             }
         }
     }
-    frame_before(buffer, end)
 }
 
 // ---- the records of a frame
-// Divides bytes into records, and notes the offset of record number `wanted`.
+// Divides bytes into records, and notes the offset of record number `wanted`. The bytes left are counted beside the
+// offset, so that neither is computed from the other at each record.
 fn divide(bytes: &[u8], wanted: u64) -> Split
-    ensures { λ r. ⌜ r ≡ splitOf wanted (division (now (bytes .entry))) ⌝ }
+    ensures { λ r. ⌜ r ≡ splitOf (length (now (bytes .entry))) wanted (division (now (bytes .entry))) ⌝ }
 {
     let mut at = 0;
+    let mut left = bytes.len();
     let mut count = 0;
-    let mut found = 0;
-    while at < bytes.len() {
-        let size = frames::record_size(&bytes[at..]);
+    let mut found = bytes.len();
+    while 0 < left {
+        let end = at + left;
+        let size = frames::record_size(&bytes[at..end]);
         if size == 0 {
             return Split::BrokenAt(at);
         }
@@ -118,6 +125,7 @@ fn divide(bytes: &[u8], wanted: u64) -> Split
             found = at;
         }
         at += size;
+        left -= size;
         count += 1;
     }
     Split::Whole(count, found)
@@ -131,7 +139,7 @@ fn read_in(bytes: &[u8], tracepoint: u16, start: usize, index: u64) -> Reading
     match divide(bytes, index) {
         Split::BrokenAt(offset) => Reading::NoReading(23, start + offset),
         Split::Whole(count, found) => {
-            if count as u64 <= index {
+            if found == bytes.len() {
                 return Reading::NoReading(25, start);
             }
             match frames::read_record(&bytes[found..]) {

@@ -1,3 +1,6 @@
+use Prim.Native.Nat.{_<_, _^_}
+use lib.ListN.{length, take, drop, length-drop}
+use lib.Seq.{length-take-le}
 use mathlib.Core.Path.{_≡_}
 use native.Mathlib.Omega.{arith}
 use denote.Ref.{now}
@@ -28,14 +31,16 @@ little-endian-requires c κs = search needs
 returns-2 : tie.Need-returns-2
 returns-2 c = no-memory _ (λ s h. omega (arith, c .before .little-endian .ensures .0))
 
-sub-if3 : tie.Need-sub-if3
-sub-if3 c = search needs
+add-size : tie.Need-add-size
+add-size c =
+    let p = c .before in
+    let l = now (p .before .before .before .before .args .bytes) in
+    let low : p .little-endian .result < 256 ^ length (take 2 (drop 9 l)) = p .little-endian .ensures .1 in
+    let long = length-take-le 2 (drop 9 l) (omega (arith, length-drop 9 l)) in
+    record { fits = omega (arith, rw long at low) }
 
 returns-3 : tie.Need-returns-3
 returns-3 c = no-memory _ (λ s h. omega (arith, c .before .before .little-endian .ensures .0))
-
-add-result : tie.Need-add-result
-add-result c = record { fits = omega arith }
 
 returns-4 : tie.Need-returns-4
 returns-4 c =
@@ -54,7 +59,6 @@ memory-size-spec =
     part-little-endian-end
     little-endian-requires
     returns-2
-    sub-if3
+    add-size
     returns-3
-    add-result
     returns-4)

@@ -1,55 +1,105 @@
-use mathlib.Core.Path.{sym, ap, _∙_}
+use denote.Ref.{now}
+use Prim.Native.Nat.{_≤_}
+use mathlib.Core.Logic.{⊎-elim}
+use mathlib.Core.Path.{_≡_, sym, _∙_}
 use native.Mathlib.Omega.{arith}
 use borrow.Author.Needs.{needs}
-use Rattle.memory.proofs.Promises.{holds-means}
-use Rattle.lilivrez_agent.specs.Lent.{stored}
-use Rattle.lilivrez_agent.proofs.Lending.{lent-refused, lent-empty, lent-image, lent-work, work-before}
+use Rattle.memory.specs.Spans.{spansRefusal}
+use Rattle.memory.specs.Fetch.{heldAt}
+use Rattle.memory.specs.declared.Held.the-variants.{InImage, InWork}
+use Rattle.memory.proofs.Promises.{image-index, work-index, image-rest, work-rest, nowhere-rest}
+use Rattle.lilivrez_agent.proofs.Lending.{spans-refused, nothing-lent, image-lent, work-lent, none-lent}
 use Rattle.lilivrez_agent.proofs.lilivrez_fetch.Statement.{statement}
 use Rattle.lilivrez_agent.proofs.lilivrez_fetch.Tie as tie
 
-fetch-refusal-requires : tie.Need-fetch-refusal-requires
-fetch-refusal-requires c κs = search needs
+-- the spans are fine, and the size is not 0
+fine : (c : tie.Else2) →
+    let a = c .before .before .before .before .before .before .args in spansRefusal (a .image-first) (now (a .image)) (a .work-first) (now (a .work)) ≡ 0
+fine c = sym (c .before .before .spans-refusal-clearing .ensures .0) ∙ c .before .if1 .left
+
+some : (c : tie.Else2) → 1 ≤ c .before .before .before .before .before .before .args .size
+some c = omega (arith, c .if2 .left)
+
+-- the span that holds the address
+image-holds : (c : tie.After-in-image) →
+    let a = c .before .before .before .before .before .before .before .before .before .args in
+    InImage (c .in-image .given .0 .0) ≡ heldAt (a .image-first) (now (a .image)) (a .work-first) (now (a .work)) (a .address)
+image-holds c = sym (c .in-image .given .1) ∙ c .before .before .holder .ensures
+
+work-holds : (c : tie.After-in-work) →
+    let a = c .before .before .before .before .before .before .before .before .before .args in
+    InWork (c .in-work .given .0 .0) ≡ heldAt (a .image-first) (now (a .image)) (a .work-first) (now (a .work)) (a .address)
+work-holds c = sym (c .in-work .given .1) ∙ c .before .before .holder .ensures
+
+spans-refusal-clearing-requires : tie.Need-spans-refusal-clearing-requires
+spans-refusal-clearing-requires c κs = search needs
 
 cast-result : tie.Need-cast-result
 cast-result c = search needs
 
 returns : tie.Need-returns
-returns c = let e = c .before .fetch-refusal .ensures in (e, sym (ap stored (lent-refused _ _ _ _ _ _ (λ z. c .if1 .taken (e ∙ z)))))
+returns c =
+    let e = c .before .spans-refusal-clearing .ensures in
+    let r = spans-refused _ _ _ _ _ _ (e .0) (c .if1 .taken) in
+    (r .0, e .1 (c .if1 .taken) ∙ r .1)
 
 returns-2 : tie.Need-returns-2
-returns-2 c = (sym (c .before .if1 .left) ∙ c .before .before .fetch-refusal .ensures, sym (ap stored (lent-empty _ _ _ _ _ _ (c .if2 .taken))))
+returns-2 c =
+    let i = c .before in
+    nothing-lent _ _ _ _ _ _ (sym (i .before .before .spans-refusal-clearing .ensures .0) ∙ i .before .if1 .left) (i .if2 .taken)
 
-holds-range-requires : tie.Need-holds-range-requires
-holds-range-requires c κs = search needs
+holder-requires : tie.Need-holder-requires
+holder-requires c κs = fine c
 
-sub-t13 : tie.Need-sub-t13
-sub-t13 c = holds-means _ _ _ _ (sym (c .before .holds-range .ensures) ∙ c .if3 .taken) .0
+enum-known-in-image : tie.Need-enum-known-in-image
+enum-known-in-image c = search needs
+
+sub-if3 : tie.Need-sub-if3
+sub-if3 c = omega (arith, image-index _ _ _ _ _ (image-holds (c .before)))
 
 returns-3 : tie.Need-returns-3
 returns-3 c =
-    let z = sym (c .before .before .before .before .before .fetch-refusal .ensures) ∙ c .before .before .before .before .if1 .left in
-    (sym z, sym (ap stored (lent-image _ _ _ _ _ _ z (omega (arith, c .before .before .before .if2 .left)) (sym (c .before .before .holds-range .ensures) ∙ c .before .if3 .taken))))
+    let i = c .before .before .before in
+    let s = i .before .before .before in
+    image-lent _ _ _ _ _ _ (fine s) (some s) (image-holds i) (omega arith)
 
-sub-t12 : tie.Need-sub-t12
-sub-t12 c =
-    let z = sym (c .before .before .before .before .fetch-refusal .ensures) ∙ c .before .before .before .if1 .left in
-    work-before _ _ _ _ _ _ z (omega (arith, c .before .before .if2 .left)) (sym (c .before .holds-range .ensures) ∙ c .if3 .left)
+enum-known-in-work : tie.Need-enum-known-in-work
+enum-known-in-work c = search needs
+
+sub-if4 : tie.Need-sub-if4
+sub-if4 c = omega (arith, work-index _ _ _ _ _ (work-holds (c .before)))
 
 returns-4 : tie.Need-returns-4
 returns-4 c =
-    let z = sym (c .before .before .before .before .before .fetch-refusal .ensures) ∙ c .before .before .before .before .if1 .left in
-    (sym z, sym (ap stored (lent-work _ _ _ _ _ _ z (omega (arith, c .before .before .before .if2 .left)) (sym (c .before .before .holds-range .ensures) ∙ c .before .if3 .left))))
+    let i = c .before .before .before in
+    let s = i .before .before .before in
+    work-lent _ _ _ _ _ _ (fine s) (some s) (work-holds i) (omega arith)
+
+enum-told : tie.Need-enum-told
+enum-told c = search needs
+
+returns-5 : tie.Need-returns-5
+returns-5 c =
+    let h = c .before .before in
+    none-lent _ _ _ _ _ _ (fine (h .before))
+    (⊎-elim (λ p. omega (arith, image-rest _ _ _ _ _ (sym (p .1 .given .1) ∙ h .holder .ensures), p .3 .left))
+    (⊎-elim (λ p. omega (arith, work-rest _ _ _ _ _ (sym (p .1 .given .1) ∙ h .holder .ensures), p .3 .left))
+    (λ p. omega (arith, nowhere-rest _ _ _ _ _ (sym (p .1 .given .1) ∙ h .holder .ensures), some (h .before)))) (c .before .match .came))
 
 pub lilivrez-fetch-spec : {M : Type 1} → statement M
 lilivrez-fetch-spec =
     tie.close
     (tie.spec
-    fetch-refusal-requires
+    spans-refusal-clearing-requires
     cast-result
     returns
     returns-2
-    holds-range-requires
-    sub-t13
+    holder-requires
+    enum-known-in-image
+    sub-if3
     returns-3
-    sub-t12
-    returns-4)
+    enum-known-in-work
+    sub-if4
+    returns-4
+    enum-told
+    returns-5)

@@ -39,7 +39,7 @@ lent c =
 -- the division stopped at a broken record
 cut : (c : tie.After-known-told3)
     → divide (lent (c .before .before .before .before .before)) ≡ brokenAt (c .before .offset .given .0 .0)
-cut c = split-broken _ _ (sym (c .before .offset .given .1) ∙ c .before .before .before .divide .ensures)
+cut c = split-broken _ _ _ (sym (c .before .offset .given .1) ∙ c .before .before .before .divide .ensures)
 
 locate-requires : tie.Need-locate-requires
 locate-requires c κs = search needs

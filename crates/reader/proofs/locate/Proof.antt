@@ -30,16 +30,21 @@ loop-holds c =
     back-begins _ _ _ (w .0) (w .1)
 
 frame-before-requires : tie.Need-frame-before-requires Inv-loop μ-loop
-frame-before-requires c κs = c .before .loop .inv .within
+frame-before-requires c κs = c .loop .inv .within
 
 enum-known-refusal : tie.Need-enum-known-refusal Inv-loop μ-loop
 enum-known-refusal c = search needs
 
 returns-2 : tie.Need-returns-2 Inv-loop μ-loop
-returns-2 c = back-refused (c .before .before .before .before .before .loop .inv) (omega arith) (ap locatedOf (sym (c .before .refusal .given .1)) ∙ c .before .before .before .frame-before .ensures)
+returns-2 c = back-refused (c .before .before .before .before .loop .inv) (ap locatedOf (sym (c .before .refusal .given .1)) ∙ c .before .before .before .frame-before .ensures)
 
 enum-known-tracepoint : tie.Need-enum-known-tracepoint Inv-loop μ-loop
 enum-known-tracepoint c = search needs
+
+returns-3 : tie.Need-returns-3 Inv-loop μ-loop
+returns-3 c =
+    let t = c .before .before in
+    ap locatedOf (sym (t .tracepoint .given .1)) ∙ t .before .before .frame-before .ensures ∙ back-last (t .before .before .before .loop .inv) (omega arith)
 
 sub-left : tie.Need-sub-left Inv-loop μ-loop
 sub-left c = search needs
@@ -48,13 +53,9 @@ loop-less : tie.Need-loop-less Inv-loop μ-loop
 loop-less c = search needs
 
 loop-again : tie.Need-loop-again Inv-loop μ-loop
-loop-again c = back-again (c .before .before .before .before .before .loop .inv) (omega arith) (ap locatedOf (sym (c .before .tracepoint .given .1)) ∙ c .before .before .before .frame-before .ensures)
-
-frame-before-requires-2 : tie.Need-frame-before-requires-2 Inv-loop μ-loop
-frame-before-requires-2 c κs = c .before .loop .inv .within
-
-returns-3 : tie.Need-returns-3 Inv-loop μ-loop
-returns-3 c = c .frame-before2 .ensures ∙ back-last (c .before .before .loop .inv) (omega arith)
+loop-again c =
+    let t = c .before .before in
+    back-again (t .before .before .before .loop .inv) (omega arith) (ap locatedOf (sym (t .tracepoint .given .1)) ∙ t .before .before .frame-before .ensures)
 
 pub locate-spec : {M : Type 1} → statement M
 locate-spec =
@@ -69,8 +70,7 @@ locate-spec =
     enum-known-refusal
     returns-2
     enum-known-tracepoint
+    returns-3
     sub-left
     loop-less
-    loop-again
-    frame-before-requires-2
-    returns-3)
+    loop-again)

@@ -1,6 +1,7 @@
+use Prim.Native.Nat.{_+_, _≤_, _<_}
 use mathlib.Core.Path.{_≡_, ap, sym, _∙_}
 use native.Mathlib.Omega.{arith}
-use lib.ListN.{drop}
+use lib.ListN.{length, drop}
 use denote.Ref.{now}
 use Rattle.encoding.proofs.Promises.{part-lent}
 use Rattle.frames.specs.Record.{decode}
@@ -10,7 +11,7 @@ use Rattle.frames.proofs.Promises.{broken-inside}
 use Rattle.reader.specs.Read.{readDivided}
 use Rattle.reader.specs.Answers.{splitOf}
 use Rattle.reader.specs.declared.Split.the-variants.{Whole}
-use Rattle.reader.proofs.Splitting.{split-broken, none-read, one-read, memory-read, variable-read, header-inside}
+use Rattle.reader.proofs.Splitting.{split-broken, is-there, none-read, one-read, memory-read, variable-read, header-inside}
 use borrow.Author.Needs.{needs}
 use Rattle.reader.proofs.read_in.Statement.{statement}
 use Rattle.reader.proofs.read_in.Tie as tie
@@ -21,12 +22,17 @@ use Rattle.reader.proofs.divide.Reads as divide-reads
 
 -- the division stopped at a broken record, or went through
 cut : (c : tie.After-known-told) → divide (now (c .before .before .before .before .before .args .bytes)) ≡ brokenAt (c .before .offset .given .0 .0)
-cut c = split-broken _ _ (sym (c .before .offset .given .1) ∙ c .before .before .before .divide .ensures)
+cut c = split-broken _ _ _ (sym (c .before .offset .given .1) ∙ c .before .before .before .divide .ensures)
 
 whole : (c : tie.After-known-told2)
     → Whole (c .before .count .given .0 .0) (c .before .count .given .0 .1 .0)
-    ≡ splitOf (c .before .before .before .before .before .args .index) (divide (now (c .before .before .before .before .before .args .bytes)))
+    ≡ splitOf (length (now (c .before .before .before .before .before .args .bytes))) (c .before .before .before .before .before .args .index)
+    (divide (now (c .before .before .before .before .before .args .bytes)))
 whole c = sym (c .before .count .given .1) ∙ c .before .before .before .divide .ensures
+
+-- it has the record of the number
+asked : (c : tie.Else1) → c .before .before .before .before .before .before .args .index < c .before .before .count .given .0 .0
+asked c = is-there _ _ (whole (c .before)) (c .if1 .left)
 
 -- the record that is read: the part that is lent is all from its offset on
 item : (c : tie.After-read-record)
@@ -34,6 +40,15 @@ item : (c : tie.After-read-record)
 item c =
     rw (part-lent (now (c .before .before .before .before .before .before .before .before .args .bytes)) (c .before .before .before .before .count .given .0 .1 .0))
     at (c .read-record .ensures)
+
+-- a memory record's header ends within the buffer
+header : (c : tie.After-known-told3) →
+    let e = c .before .before .before .before .before in
+    e .before .before .before .before .before .before .args .start + e .before .before .count .given .0 .1 .0 + 11 ≤ 65536
+header c =
+    let e = c .before .before .before .before .before in
+    let h = header-inside _ _ (whole (e .before)) (asked e) (item (c .before .before .before)) (c .before .address .given .1) in
+    omega (arith, h, e .before .before .before .before .before .before .pre)
 
 divide-requires : tie.Need-divide-requires
 divide-requires c κs = search needs
@@ -48,13 +63,13 @@ enum-known-count : tie.Need-enum-known-count
 enum-known-count c = search needs
 
 returns : tie.Need-returns
-returns c = none-read _ _ (whole (c .before)) _ _ (omega arith)
+returns c = none-read _ _ (whole (c .before)) (c .if1 .taken) _ _
 
 sub-read-record : tie.Need-sub-read-record
-sub-read-record c = omega (arith, one-read _ _ (whole (c .before)) (omega arith) .inside)
+sub-read-record c = omega (arith, one-read _ _ (whole (c .before)) (asked c) .inside)
 
 part-read-record-start : tie.Need-part-read-record-start
-part-read-record-start c = omega (arith, one-read _ _ (whole (c .before)) (omega arith) .inside)
+part-read-record-start c = omega (arith, one-read _ _ (whole (c .before)) (asked c) .inside)
 
 part-read-record-end : tie.Need-part-read-record-end
 part-read-record-end c = search needs
@@ -63,16 +78,16 @@ read-record-requires : tie.Need-read-record-requires
 read-record-requires c κs =
     let w = whole (c .before .before) in
     let l = now (c .before .before .before .before .before .before .before .args .bytes) in
-    rw (part-lent l (c .before .before .before .count .given .0 .1 .0)) (one-read l _ w (omega arith) .some)
+    rw (part-lent l (c .before .before .before .count .given .0 .1 .0)) (one-read l _ w (asked (c .before)) .some)
 
 enum-known-address : tie.Need-enum-known-address
 enum-known-address c = search needs
 
-add-t23 : tie.Need-add-t23
-add-t23 c = record { fits = omega (arith, c .before .before .before .before .before .before .before .before .before .before .before .pre, header-inside _ _ (whole (c .before .before .before .before .before .before)) (omega arith) (item (c .before .before .before)) (c .before .address .given .1)) }
+add-t22 : tie.Need-add-t22
+add-t22 c = record { fits = omega (arith, header c) }
 
-add-t24 : tie.Need-add-t24
-add-t24 c = record { fits = omega (arith, c .before .before .before .before .before .before .before .before .before .before .before .pre, header-inside _ _ (whole (c .before .before .before .before .before .before)) (omega arith) (item (c .before .before .before)) (c .before .address .given .1)) }
+add-t23 : tie.Need-add-t23
+add-t23 c = record { fits = omega (arith, header c) }
 
 enum-known-number : tie.Need-enum-known-number
 enum-known-number c = search needs
@@ -81,10 +96,14 @@ returns-2 : tie.Need-returns-2
 returns-2 c = ap (readDivided _ _ _) (sym (cut c))
 
 returns-3 : tie.Need-returns-3
-returns-3 c = memory-read _ _ (whole (c .before .before .before .before .before .before)) (omega arith) (item (c .before .before .before)) (c .before .address .given .1) _ _
+returns-3 c =
+    let e = c .before .before .before .before .before in
+    memory-read _ _ (whole (e .before)) (asked e) (item (c .before .before .before)) (c .before .address .given .1) _ _
 
 returns-4 : tie.Need-returns-4
-returns-4 c = variable-read _ _ (whole (c .before .before .before .before .before .before)) (omega arith) (item (c .before .before .before)) (c .before .number .given .1) _ _
+returns-4 c =
+    let e = c .before .before .before .before .before in
+    variable-read _ _ (whole (e .before)) (asked e) (item (c .before .before .before)) (c .before .number .given .1) _ _
 
 pub read-in-spec : {M : Type 1} → statement M
 read-in-spec =
@@ -100,8 +119,8 @@ read-in-spec =
     part-read-record-end
     read-record-requires
     enum-known-address
+    add-t22
     add-t23
-    add-t24
     enum-known-number
     returns-2
     returns-3
