@@ -229,18 +229,19 @@ module _ (f : ℕ) (image : List ℕ) (g : ℕ) (work : List ℕ) where
     found-in-image h =
         let o = wrapped-in f (length image) a w (spans-0 f image g work .0 fine .image-fits) e h in rw (o .1, ← (o .0))
 
-    module _ (b : w < 2 ^ 64) (h : length image ≤ w) where
-      not-image : holdsRange f (length image) a 1 ≡ false
-      not-image = wrapped-out f (length image) a w (spans-0 f image g work .0 fine .image-fits) e b h
+    pub found-nowhere : w < 2 ^ 64 → length image ≤ w → {x : ℕ} → (x + g) % 2 ^ 64 ≡ a → x < 2 ^ 64 → length work ≤ x → Nowhere ≡ heldAt f image g work a
+    unfolding heldAt
+    found-nowhere b h {x} d l s =
+        rw (wrapped-out f (length image) a w (spans-0 f image g work .0 fine .image-fits) e b h, wrapped-out g (length work) a x (spans-0 f image g work .0 fine .work-fits) d l s)
 
-      pub found-in-work : {x : ℕ} → (x + g) % 2 ^ 64 ≡ a → x < length work → InWork x ≡ heldAt f image g work a
-      unfolding heldAt
-      found-in-work {x} d s =
-          let o = wrapped-in g (length work) a x (spans-0 f image g work .0 fine .work-fits) d s in rw (not-image, o .1, ← (o .0))
-
-      pub found-nowhere : {x : ℕ} → (x + g) % 2 ^ 64 ≡ a → x < 2 ^ 64 → length work ≤ x → Nowhere ≡ heldAt f image g work a
-      unfolding heldAt
-      found-nowhere {x} d l s = rw (not-image, wrapped-out g (length work) a x (spans-0 f image g work .0 fine .work-fits) d l s)
+  -- what the working memory holds, the image does not
+  pub found-in-work : spansRefusal f image g work ≡ 0 → {a x : ℕ} → (x + g) % 2 ^ 64 ≡ a → x < length work → InWork x ≡ heldAt f image g work a
+  unfolding heldAt
+  found-in-work fine {a} {x} d s =
+      let t = spans-0 f image g work .0 fine in
+      let o = wrapped-in g (length work) a x (t .work-fits) d s in
+      let y = holds-true g (length work) a 1 (o .1) in
+      rw (misses-address f (length image) a (λ j. t .apart a j (omega (arith, y), omega (arith, y))), o .1, ← (o .0))
 
   -- what the answer says
   module _ (a : ℕ) {i : ℕ} where

@@ -86,18 +86,18 @@ pub enum Held {
 }
 
 // Where an address is. No span ends past 2^64, so that one comparison, of the difference modulo 2^64, tells whether a
-// span holds it.
+// span holds it. No two hold it, so that the order is free: stack and heap are asked for most, and come first.
 pub fn holder(image_first: u64, image: &[u8], work_first: u64, work: &[u8], address: u64) -> Held
     requires { ⌜ spansRefusal «image_first» (now image) «work_first» (now work) ≡ 0 ⌝ }
     ensures { λ r. ⌜ r ≡ heldAt «image_first» (now (image .entry)) «work_first» (now (work .entry)) address ⌝ }
 {
-    let in_image = std::num::wrapping_sub_u64(address, image_first);
-    if in_image < image.len() as u64 {
-        return Held::InImage(in_image);
-    }
     let in_work = std::num::wrapping_sub_u64(address, work_first);
     if in_work < work.len() as u64 {
         return Held::InWork(in_work);
+    }
+    let in_image = std::num::wrapping_sub_u64(address, image_first);
+    if in_image < image.len() as u64 {
+        return Held::InImage(in_image);
     }
     Held::Nowhere
 }
