@@ -64,7 +64,8 @@ enum lilivrez_run_place {
  * Verifies an expression, checks what is given, and runs it. Returns 0 where the run completed, else the refusal: 1 to 21.
  *
  * registers   register n of the target is registers[n]; at most LILIVREZ_REGISTERS
- * variables   the trace state variables, 0 to 63. A completed run leaves them as it set them, a refused one as given.
+ * variables   the trace state variables, 0 to 63. A completed run leaves them as it set them, a refused one as given. Until it
+ *             returns they may hold what it has set so far.
  * buffer      the trace buffer, at most LILIVREZ_BUFFER_BYTES bytes. The first `used` are frames already recorded, and stay as
  *             they are. A completed run appends one frame: its records and a trailer with the tracepoint number. A run refused
  *             with 16 to 21 leaves the records it had completed past the used length, which the next run overwrites. Every
