@@ -50,8 +50,8 @@ pub record ByRow (s k h g o n m : ℕ) (r : Effect) : Type 0 where
   pub height-is : r .stop ≢ stop-doubt → r .height ≡ h - n + m
   pub greatest-is : r .stop ≢ stop-doubt → r .greatest ≡ max g (h - n + m)
 
--- the instruction at k, reached with height h, the greatest being g, is neither a jump nor an end, and meets no refusal where its bytes are
--- there
+-- the instruction at k, reached with height h, the greatest being g, is neither a jump nor an end, and meets no refusal
+-- where its bytes are there
 pub record GoesOn (e : List ℕ) (k h g : ℕ) (r : Effect) : Type 0 where
   pub clear : next e k ≤ length e → fault1 e k ≡ 0
   pub straight : kindAt e k < kind-goto

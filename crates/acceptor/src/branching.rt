@@ -30,6 +30,7 @@ use crate::effects::ext;
 use crate::effects::halt;
 use crate::effects::pick;
 use crate::effects::variable;
+use isa::Stack;
 use passes::Flow;
 use passes::brought;
 
@@ -116,7 +117,7 @@ fn jump(
     if e.len() - at < 4 {
         return no_jump(at);
     }
-    if 64 < height {
+    if Stack::DEPTH < height {
         return no_jump(at);
     }
     if height < needed {
@@ -217,7 +218,7 @@ fn at_last(s: State, longest: usize) -> State
     if s.noted != s.met {
         return in_doubt(s);
     }
-    if 64 < s.greatest {
+    if Stack::DEPTH < s.greatest {
         return in_doubt(s);
     }
     State {

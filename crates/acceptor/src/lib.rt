@@ -7,6 +7,7 @@ ghost use Prim.Native.Nat.{_≤_};
 ghost use lib.ListN.{length};
 ghost use Rattle.acceptor.specs.StraightCode.{Following, Straight};
 ghost use Rattle.acceptor.specs.CodeWithJumps.{Concluded};
+use isa::Stack;
 
 mod branching;
 mod effects;
@@ -89,7 +90,7 @@ pub fn accept_straight(e: &[u8]) -> Stop
     if stop.at + 1 != e.len() {
         return stop;
     }
-    if 64 < stop.greatest {
+    if Stack::DEPTH < stop.greatest {
         return stop;
     }
     Stop {

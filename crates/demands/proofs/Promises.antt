@@ -1,6 +1,6 @@
 -- The demands (docs/demands.md), sentence by sentence, each as a statement that is proved by citing the crates' pages.
 -- What a reader must believe besides is the definitions that are named here: `verdict`, `Walk` and `Accepted`
--- (verifier, isa), `ended` (machine), `fetched`, `targetByte` and `InTarget` (memory), `encodeFrame` (frames),
+-- (verdict, isa), `ended` (machine), `fetched`, `targetByte` and `InTarget` (memory), `encodeFrame` (frames),
 -- `reading`, `counting`, `located` and `walked` (reader), `ToldRun` (lilivrez_agent), and this crate's specs/.
 use mathlib.Core.Bool.{false}
 use mathlib.Core.List.{List, _∷_, _++_}

@@ -1,6 +1,6 @@
 -- What users of `machine` may cite: promises R2 and R3, that records are well formed, how a run ends before it steps,
 -- and what a loop that follows the machine needs at each step. The definitions that it names are in specs/: Machine
--- (the moves), Run (a run on any input), Recorded (what its records hold); and of other crates `isa` Walk, `verifier`
+-- (the moves), Run (a run on any input), Recorded (what its records hold); and of other crates `isa` Walk, `verdict`
 -- Acceptance.
 use mathlib.Core.List.{List, []}
 use mathlib.Core.Logic.{_≢_}

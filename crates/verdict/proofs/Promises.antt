@@ -1,6 +1,6 @@
--- What users of `verifier` may cite: promises V1 to V5, and what an answer means. Nothing above this crate looks behind
--- this page. The definitions that it names are in specs/: Verdict (the answer), Acceptance (what it means), and in
--- `isa` Walk.
+-- What users of the verifier may cite: promises V1 to V5, and what an answer means. Only the crates that follow the
+-- passes, `passes` and `acceptor`, look behind this page. The definitions that it names are in specs/: Verdict (the
+-- answer), Acceptance (what it means), and in `isa` Walk.
 use mathlib.Core.Bool.{true}
 use mathlib.Core.List.{List, [], _∷_, _++_}
 use mathlib.Core.Logic.{_↔_}
@@ -21,7 +21,7 @@ use Rattle.verdict.proofs.Along.{after-later, walk-length}
 use Rattle.verdict.proofs.Endings.{follows}
 use Rattle.verdict.proofs.Meaning as meaning
 
--- V1. The contract of `verify` (src/lib.rt): of any bytes e its answer, in document 01's number and values, is
+-- V1. The contract of `verify` (crate `verifier`): of any bytes e its answer, in document 01's number and values, is
 -- `verdict e`.
 
 module _ (e : List ℕ) where
