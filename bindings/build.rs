@@ -5,7 +5,7 @@ fn main() {
     let package = std::env::var("CARGO_MANIFEST_DIR").expect("cargo sets it");
     let libraries = Path::new(&package).join("../target/staticlib");
     println!("cargo:rustc-link-search=native={}", libraries.display());
-    for name in ["lilivrez_agent", "lilivrez_verifier"] {
+    for name in ["lilivrez_verifier", "lilivrez_agent", "lilivrez_frames"] {
         let archive = libraries.join(format!("lib{name}.a"));
         assert!(
             archive.is_file(),

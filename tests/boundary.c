@@ -12,6 +12,8 @@
 #include <unistd.h>
 
 #include "lilivrez_agent.h"
+#include "lilivrez_frames.h"
+#include "lilivrez_verifier.h"
 
 #define MOST (LILIVREZ_BUFFER_BYTES + 4096)
 #define REFUSALS 26

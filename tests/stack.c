@@ -1,5 +1,5 @@
 /*
- * The libraries' functions on a stack of 8 KB, with a page behind it that nobody may touch: what the header says of
+ * The libraries' functions on a stack of 8 KB, with a page behind it that nobody may touch: what lilivrez.h says of
  * their stack. Calls that are accepted, refused at each stage, or in doubt, with code that no walk reaches. The answers
  * are document 01's.
  */
@@ -14,6 +14,8 @@
 #include <unistd.h>
 
 #include "lilivrez_agent.h"
+#include "lilivrez_frames.h"
+#include "lilivrez_verifier.h"
 
 enum { PAGE = 4096, STACK = 8192, PATTERN = 0xa5, PLACES = 6 };
 

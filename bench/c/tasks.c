@@ -1,6 +1,8 @@
 // The tasks, in the order of the tables, and how one is performed.
 #include "bench.h"
 #include "lilivrez_agent.h"
+#include "lilivrez_frames.h"
+#include "lilivrez_verifier.h"
 
 #include <stdio.h>
 #include <string.h>

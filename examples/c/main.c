@@ -3,6 +3,8 @@
 #include <stdio.h>
 
 #include "lilivrez_agent.h"
+#include "lilivrez_frames.h"
+#include "lilivrez_verifier.h"
 
 #define TRACEPOINT 7
 
@@ -60,7 +62,7 @@ static void print_answer(const uint64_t out[LILIVREZ_RUN_PLACES])
     printf("\n");
 }
 
-/* The unit's part: a run appends its frame to the trace buffer. */
+/* The unit's part, lilivrez_agent.h: a run appends its frame to the trace buffer. */
 static void run(struct unit *u, const char *what, const uint8_t *expression, size_t length)
 {
     uint64_t out[LILIVREZ_RUN_PLACES];
@@ -93,7 +95,7 @@ static void fetch(const struct unit *u, uint64_t address, uint64_t size)
         print_bytes("working memory", u->work + out[LILIVREZ_FETCH_INDEX], (size_t)size);
 }
 
-/* The bytes of a memory record stay in the trace buffer: the reading tells where. */
+/* The lab's part, lilivrez_frames.h. The bytes of a memory record stay in the trace buffer: the reading tells where. */
 static void print_record(const struct unit *u, uint64_t frame, uint64_t index)
 {
     uint64_t out[LILIVREZ_READ_PLACES];

@@ -10,16 +10,16 @@ use lib.ListN.{getD, length}
 use lib.Dec.{T, eqb}
 use types.Run.{OneOf}
 use borrow.Author.Tests.{eqb-true}
-use Rattle.encoding.proofs.Promises.{and-left, and-right}
+use Rattle.logic.proofs.Promises.{and-left, and-right}
 use Rattle.isa.specs.Classes.{opcodes, classOf, row, kind, setv, kind-ext, kind-variable, kind-plain, kind-pick, kind-goto, kind-if-goto, kind-end}
 use Rattle.isa.specs.Decode.{classAt, kindAt, next, operand, picked, needed, left}
 use Rattle.isa.proofs.Promises.{picked-pick, needed-row, left-row, needed-by, left-by, after-by}
 use Rattle.isa.specs.declared.Row.{Row}
-use Rattle.isa.specs.Rows.{IsRow}
+use Rattle.isa.specs.joining.Rows.{IsRow}
 use Rattle.verdict.specs.Pass1.{fault1}
-use Rattle.verdict.proofs.Faults.{f-plain, f-ext-some, f-variable-low}
-use Rattle.acceptor.specs.StraightCode.{stop-on, stop-doubt, stop-if-goto, stop-end, stop-goto, stop-sets, ByRow, GoesOn, IsEnd, IsJump, IsIfGoto, IsGoto, HasEffect}
-use Rattle.acceptor.specs.declared.Effect.{Effect}
+use Rattle.verdict.proofs.Deciding.{f-plain, f-ext-some, f-variable-low}
+use Rattle.acceptor.specs.joining.StraightCode.{stop-on, stop-doubt, stop-if-goto, stop-end, stop-goto, stop-sets, ByRow, GoesOn, IsEnd, IsJump, IsIfGoto, IsGoto, HasEffect}
+use Rattle.acceptor.specs.declared.effects.HeightEffect.{HeightEffect}
 
 -- ---- the row of an arm: operand bytes o, cells needed n and left m, kind q
 abbrev Lined : ℕ → ℕ → ℕ → ℕ → ℕ → Type 0
@@ -66,7 +66,7 @@ not-needed : (e : List ℕ) (k : ℕ) → 0 ≡ getD (row (classAt e k)) 1 0 →
 not-needed e k p z = let q : getD (row (classAt e k)) 1 0 ≡ 1 = ap (λ c. getD (row c) 1 0) z in absurd (omega arith)
 
 -- ---- an instruction that goes on
-module _ (e : List ℕ) (k h g : ℕ) {r : Effect} where
+module _ (e : List ℕ) (k h g : ℕ) {r : HeightEffect} where
   effect-on : r .stop ≤ stop-doubt → (r .stop ≢ stop-doubt → GoesOn e k h g r) → classAt e k ≢ setv → HasEffect e k h g r
   effect-on p g x = record {
     most = omega arith;
@@ -89,7 +89,7 @@ module _ (e : List ℕ) (k h g : ℕ) {r : Effect} where
     quiet = λ z y. absurd (y (p z));
   }
 
-module _ (e : List ℕ) (k h g s o n m : ℕ) {r : Effect} (w : ByRow s k h g o n m r) (few : o ≤ 8) (grows : m ≤ n + 1) where
+module _ (e : List ℕ) (k h g s o n m : ℕ) {r : HeightEffect} (w : ByRow s k h g o n m r) (few : o ≤ 8) (grows : m ≤ n + 1) where
   goes-on-by : (q : ℕ) → o ≡ getD (row (classOf (getD e k 0))) 0 0 → n ≡ needed e k → m ≡ left e k → kindAt e k ≡ q → q < kind-goto
       → (next e k ≤ length e → fault1 e k ≡ 0) → r .stop ≢ stop-doubt → GoesOn e k h g r
   goes-on-by q po pn pm pq small f z = record {
@@ -112,21 +112,21 @@ module _ (e : List ℕ) (k h g s o n m : ℕ) {r : Effect} (w : ByRow s k h g o 
       let p : kindAt e k ≢ kind-pick = omega (arith, l .kind-is) in
       goes-on-by q (l .operands-is) (needed-row e k n (l .needed-is) p) (left-row e k m (l .left-is) p) (sym (l .kind-is)) (omega arith) (f z) z
 
-effect-plain : (e : List ℕ) (k h g o n m : ℕ) {r : Effect} → ByRow stop-on k h g o n m r → o ≤ 8 → m ≤ n + 1 → Lined o n m kind-plain (getD e k 0) → HasEffect e k h g r
+effect-plain : (e : List ℕ) (k h g o n m : ℕ) {r : HeightEffect} → ByRow stop-on k h g o n m r → o ≤ 8 → m ≤ n + 1 → Lined o n m kind-plain (getD e k 0) → HasEffect e k h g r
 effect-plain e k h g o n m w few grows l =
     effect-on e k h g (on-or-doubt e k h g stop-on o n m w few grows refl)
     (goes-on-lined e k h g stop-on o n m w few grows kind-plain l (omega arith)
     (λ _ f. sym (f-plain e k f (omega (arith, l .kind-is)) (omega (arith, l .kind-is)) (omega (arith, l .kind-is)))))
     (not-kind e k (omega (arith, l .kind-is)))
 
-effect-ext : (e : List ℕ) (k h g : ℕ) {r : Effect} → ByRow stop-on k h g 1 1 1 r → Lined 1 1 1 kind-ext (getD e k 0) → (r .stop ≢ stop-doubt → 1 ≤ operand e k) → HasEffect e k h g r
+effect-ext : (e : List ℕ) (k h g : ℕ) {r : HeightEffect} → ByRow stop-on k h g 1 1 1 r → Lined 1 1 1 kind-ext (getD e k 0) → (r .stop ≢ stop-doubt → 1 ≤ operand e k) → HasEffect e k h g r
 effect-ext e k h g w l x =
     effect-on e k h g (on-or-doubt e k h g stop-on 1 1 1 w (omega arith) (omega arith) refl)
     (goes-on-lined e k h g stop-on 1 1 1 w (omega arith) (omega arith) kind-ext l (omega arith) (λ z f. sym (f-ext-some e k f (sym (l .kind-is)) (omega (arith, x z)))))
     (not-kind e k (omega (arith, l .kind-is)))
 
 -- getv, setv and tracev
-module _ (e : List ℕ) (k h g s n : ℕ) {r : Effect} (w : ByRow s k h g 2 n 1 r) (l : Lined 2 n 1 kind-variable (getD e k 0)) (x : r .stop ≢ stop-doubt → operand e k ≤ 63) where
+module _ (e : List ℕ) (k h g s n : ℕ) {r : HeightEffect} (w : ByRow s k h g 2 n 1 r) (l : Lined 2 n 1 kind-variable (getD e k 0)) (x : r .stop ≢ stop-doubt → operand e k < 64) where
   goes-on-variable : r .stop ≢ stop-doubt → GoesOn e k h g r
   goes-on-variable = goes-on-lined e k h g s 2 n 1 w (omega arith) (omega arith) kind-variable l (omega arith) (λ z f. sym (f-variable-low e k f (sym (l .kind-is)) (x z)))
 
@@ -137,10 +137,11 @@ module _ (e : List ℕ) (k h g s n : ℕ) {r : Effect} (w : ByRow s k h g 2 n 1 
   effect-setv : s ≡ stop-sets → HasEffect e k h g r
   effect-setv p = effect-sets e k h g (λ z. w .either z ∙ p) goes-on-variable
 
-pub row-pick : (e : List ℕ) (k h g n : ℕ) {r : Effect} → ByRow stop-on k h g 1 (1 + n) (2 + n) r → n ≡ operand e k → kindAt e k ≡ kind-pick → ByRow stop-on k h g 1 (1 + picked e k) (2 + picked e k) r
+pub row-pick : (e : List ℕ) (k h g n : ℕ) {r : HeightEffect} → ByRow stop-on k h g 1 (1 + n) (2 + n) r → n ≡ operand e k → kindAt e k ≡ kind-pick
+    → ByRow stop-on k h g 1 (1 + picked e k) (2 + picked e k) r
 row-pick e k h g n w p q = rw (picked-pick e k n p q) at w
 
-effect-pick : (e : List ℕ) (k h g : ℕ) {r : Effect} → ByRow stop-on k h g 1 (1 + picked e k) (2 + picked e k) r → Lined 1 1 2 kind-pick (getD e k 0) → HasEffect e k h g r
+effect-pick : (e : List ℕ) (k h g : ℕ) {r : HeightEffect} → ByRow stop-on k h g 1 (1 + picked e k) (2 + picked e k) r → Lined 1 1 2 kind-pick (getD e k 0) → HasEffect e k h g r
 effect-pick e k h g w l =
     effect-on e k h g (on-or-doubt e k h g stop-on 1 (1 + picked e k) (2 + picked e k) w (omega arith) (omega arith) refl)
     (goes-on-by e k h g stop-on 1 (1 + picked e k) (2 + picked e k) w (omega arith) (omega arith) kind-pick (l .operands-is) (needed-by e k 1 (picked e k) (l .needed-is) refl)
@@ -158,7 +159,7 @@ jump-by e k n q a b l = record {
   left-is = left-row e k 0 (l .left-is) (omega (arith, l .kind-is));
 }
 
-module _ (e : List ℕ) (k h g : ℕ) {r : Effect} where
+module _ (e : List ℕ) (k h g : ℕ) {r : HeightEffect} where
   -- one that is no variable's: what is left to say is its own
   effect-halt : r .stop ≤ stop-goto → 1 ≤ r .stop → (r .stop ≢ stop-doubt → kindAt e k ≢ kind-variable)
       → (r .stop ≡ stop-if-goto → IsIfGoto e k) → (r .stop ≡ stop-end → IsEnd e k) → (r .stop ≡ stop-goto → IsGoto e k) → HasEffect e k h g r
@@ -195,8 +196,8 @@ module _ (e : List ℕ) (k h g : ℕ) {r : Effect} where
       effect-halt (omega arith) (omega arith) (λ z. absurd (z s)) (λ z. absurd (omega arith)) (λ z. absurd (omega arith)) (λ z. absurd (omega arith))
 
 -- ---- the arms, each by its first opcode
-abbrev pub At : List ℕ → ℕ → List ℕ → Type 0
-At e k ks = OneOf ks (getD e k 0)
+abbrev pub OpcodeAt : List ℕ → ℕ → List ℕ → Type 0
+OpcodeAt e k ks = OneOf ks (getD e k 0)
 
 pub is-ext : (op : ℕ) → OneOf (0x16 ∷ []) op → kind (classOf op) ≡ kind-ext
 unfolding classOf opcodes
@@ -214,99 +215,99 @@ pub is-pick : (op : ℕ) → OneOf (0x32 ∷ []) op → kind (classOf op) ≡ ki
 unfolding classOf opcodes
 is-pick op p = sym (these 1 1 2 kind-pick _ 0x32 ([]) tt p .kind-is)
 
-module _ {e : List ℕ} {k h g : ℕ} {r : Effect} where
-  pub arm-02 : ByRow stop-on k h g 0 2 1 r → At e k (0x02 ∷ 0x04 ∷ 0x06 ∷ 0x08 ∷ 0x0a ∷ []) → HasEffect e k h g r
+module _ {e : List ℕ} {k h g : ℕ} {r : HeightEffect} where
+  pub arm-02 : ByRow stop-on k h g 0 2 1 r → OpcodeAt e k (0x02 ∷ 0x04 ∷ 0x06 ∷ 0x08 ∷ 0x0a ∷ []) → HasEffect e k h g r
   unfolding classOf opcodes
   arm-02 w p = effect-plain e k h g 0 2 1 w (omega arith) (omega arith) (these 0 2 1 kind-plain _ 0x02 (0x04 ∷ 0x06 ∷ 0x08 ∷ 0x0a ∷ []) tt p)
 
-  pub arm-0f : ByRow stop-on k h g 0 2 1 r → At e k (0x0f ∷ 0x11 ∷ 0x13 ∷ 0x15 ∷ []) → HasEffect e k h g r
+  pub arm-0f : ByRow stop-on k h g 0 2 1 r → OpcodeAt e k (0x0f ∷ 0x11 ∷ 0x13 ∷ 0x15 ∷ []) → HasEffect e k h g r
   unfolding classOf opcodes
   arm-0f w p = effect-plain e k h g 0 2 1 w (omega arith) (omega arith) (these 0 2 1 kind-plain _ 0x0f (0x11 ∷ 0x13 ∷ 0x15 ∷ []) tt p)
 
-  pub arm-03 : ByRow stop-on k h g 0 2 1 r → At e k (0x03 ∷ 0x05 ∷ 0x07 ∷ 0x09 ∷ 0x0b ∷ []) → HasEffect e k h g r
+  pub arm-03 : ByRow stop-on k h g 0 2 1 r → OpcodeAt e k (0x03 ∷ 0x05 ∷ 0x07 ∷ 0x09 ∷ 0x0b ∷ []) → HasEffect e k h g r
   unfolding classOf opcodes
   arm-03 w p = effect-plain e k h g 0 2 1 w (omega arith) (omega arith) (these 0 2 1 kind-plain _ 0x03 (0x05 ∷ 0x07 ∷ 0x09 ∷ 0x0b ∷ []) tt p)
 
-  pub arm-10 : ByRow stop-on k h g 0 2 1 r → At e k (0x10 ∷ 0x14 ∷ []) → HasEffect e k h g r
+  pub arm-10 : ByRow stop-on k h g 0 2 1 r → OpcodeAt e k (0x10 ∷ 0x14 ∷ []) → HasEffect e k h g r
   unfolding classOf opcodes
   arm-10 w p = effect-plain e k h g 0 2 1 w (omega arith) (omega arith) (these 0 2 1 kind-plain _ 0x10 (0x14 ∷ []) tt p)
 
-  pub arm-0c : ByRow stop-on k h g 0 2 0 r → At e k (0x0c ∷ 0x2f ∷ []) → HasEffect e k h g r
+  pub arm-0c : ByRow stop-on k h g 0 2 0 r → OpcodeAt e k (0x0c ∷ 0x2f ∷ []) → HasEffect e k h g r
   unfolding classOf opcodes
   arm-0c w p = effect-plain e k h g 0 2 0 w (omega arith) (omega arith) (these 0 2 0 kind-plain _ 0x0c (0x2f ∷ []) tt p)
 
-  pub arm-0e : ByRow stop-on k h g 0 1 1 r → At e k (0x0e ∷ 0x12 ∷ 0x17 ∷ 0x19 ∷ []) → HasEffect e k h g r
+  pub arm-0e : ByRow stop-on k h g 0 1 1 r → OpcodeAt e k (0x0e ∷ 0x12 ∷ 0x17 ∷ 0x19 ∷ []) → HasEffect e k h g r
   unfolding classOf opcodes
   arm-0e w p = effect-plain e k h g 0 1 1 w (omega arith) (omega arith) (these 0 1 1 kind-plain _ 0x0e (0x12 ∷ 0x17 ∷ 0x19 ∷ []) tt p)
 
-  pub arm-18 : ByRow stop-on k h g 0 1 1 r → At e k (0x18 ∷ 0x1a ∷ []) → HasEffect e k h g r
+  pub arm-18 : ByRow stop-on k h g 0 1 1 r → OpcodeAt e k (0x18 ∷ 0x1a ∷ []) → HasEffect e k h g r
   unfolding classOf opcodes
   arm-18 w p = effect-plain e k h g 0 1 1 w (omega arith) (omega arith) (these 0 1 1 kind-plain _ 0x18 (0x1a ∷ []) tt p)
 
-  pub arm-0d : ByRow stop-on k h g 1 1 1 r → At e k (0x0d ∷ 0x2a ∷ []) → HasEffect e k h g r
+  pub arm-0d : ByRow stop-on k h g 1 1 1 r → OpcodeAt e k (0x0d ∷ 0x2a ∷ []) → HasEffect e k h g r
   unfolding classOf opcodes
   arm-0d w p = effect-plain e k h g 1 1 1 w (omega arith) (omega arith) (these 1 1 1 kind-plain _ 0x0d (0x2a ∷ []) tt p)
 
-  pub arm-30 : ByRow stop-on k h g 2 1 1 r → At e k (0x30 ∷ []) → HasEffect e k h g r
+  pub arm-30 : ByRow stop-on k h g 2 1 1 r → OpcodeAt e k (0x30 ∷ []) → HasEffect e k h g r
   unfolding classOf opcodes
   arm-30 w p = effect-plain e k h g 2 1 1 w (omega arith) (omega arith) (these 2 1 1 kind-plain _ 0x30 ([]) tt p)
 
-  pub arm-22 : ByRow stop-on k h g 1 0 1 r → At e k (0x22 ∷ []) → HasEffect e k h g r
+  pub arm-22 : ByRow stop-on k h g 1 0 1 r → OpcodeAt e k (0x22 ∷ []) → HasEffect e k h g r
   unfolding classOf opcodes
   arm-22 w p = effect-plain e k h g 1 0 1 w (omega arith) (omega arith) (these 1 0 1 kind-plain _ 0x22 ([]) tt p)
 
-  pub arm-23 : ByRow stop-on k h g 2 0 1 r → At e k (0x23 ∷ 0x26 ∷ []) → HasEffect e k h g r
+  pub arm-23 : ByRow stop-on k h g 2 0 1 r → OpcodeAt e k (0x23 ∷ 0x26 ∷ []) → HasEffect e k h g r
   unfolding classOf opcodes
   arm-23 w p = effect-plain e k h g 2 0 1 w (omega arith) (omega arith) (these 2 0 1 kind-plain _ 0x23 (0x26 ∷ []) tt p)
 
-  pub arm-24 : ByRow stop-on k h g 4 0 1 r → At e k (0x24 ∷ []) → HasEffect e k h g r
+  pub arm-24 : ByRow stop-on k h g 4 0 1 r → OpcodeAt e k (0x24 ∷ []) → HasEffect e k h g r
   unfolding classOf opcodes
   arm-24 w p = effect-plain e k h g 4 0 1 w (omega arith) (omega arith) (these 4 0 1 kind-plain _ 0x24 ([]) tt p)
 
-  pub arm-25 : ByRow stop-on k h g 8 0 1 r → At e k (0x25 ∷ []) → HasEffect e k h g r
+  pub arm-25 : ByRow stop-on k h g 8 0 1 r → OpcodeAt e k (0x25 ∷ []) → HasEffect e k h g r
   unfolding classOf opcodes
   arm-25 w p = effect-plain e k h g 8 0 1 w (omega arith) (omega arith) (these 8 0 1 kind-plain _ 0x25 ([]) tt p)
 
-  pub arm-28 : ByRow stop-on k h g 0 1 2 r → At e k (0x28 ∷ []) → HasEffect e k h g r
+  pub arm-28 : ByRow stop-on k h g 0 1 2 r → OpcodeAt e k (0x28 ∷ []) → HasEffect e k h g r
   unfolding classOf opcodes
   arm-28 w p = effect-plain e k h g 0 1 2 w (omega arith) (omega arith) (these 0 1 2 kind-plain _ 0x28 ([]) tt p)
 
-  pub arm-29 : ByRow stop-on k h g 0 1 0 r → At e k (0x29 ∷ []) → HasEffect e k h g r
+  pub arm-29 : ByRow stop-on k h g 0 1 0 r → OpcodeAt e k (0x29 ∷ []) → HasEffect e k h g r
   unfolding classOf opcodes
   arm-29 w p = effect-plain e k h g 0 1 0 w (omega arith) (omega arith) (these 0 1 0 kind-plain _ 0x29 ([]) tt p)
 
-  pub arm-2b : ByRow stop-on k h g 0 2 2 r → At e k (0x2b ∷ []) → HasEffect e k h g r
+  pub arm-2b : ByRow stop-on k h g 0 2 2 r → OpcodeAt e k (0x2b ∷ []) → HasEffect e k h g r
   unfolding classOf opcodes
   arm-2b w p = effect-plain e k h g 0 2 2 w (omega arith) (omega arith) (these 0 2 2 kind-plain _ 0x2b ([]) tt p)
 
-  pub arm-33 : ByRow stop-on k h g 0 3 3 r → At e k (0x33 ∷ []) → HasEffect e k h g r
+  pub arm-33 : ByRow stop-on k h g 0 3 3 r → OpcodeAt e k (0x33 ∷ []) → HasEffect e k h g r
   unfolding classOf opcodes
   arm-33 w p = effect-plain e k h g 0 3 3 w (omega arith) (omega arith) (these 0 3 3 kind-plain _ 0x33 ([]) tt p)
 
-  pub arm-16 : ByRow stop-on k h g 1 1 1 r × (r .stop ≢ stop-doubt → 1 ≤ operand e k) → At e k (0x16 ∷ []) → HasEffect e k h g r
+  pub arm-16 : ByRow stop-on k h g 1 1 1 r × (r .stop ≢ stop-doubt → 1 ≤ operand e k) → OpcodeAt e k (0x16 ∷ []) → HasEffect e k h g r
   unfolding classOf opcodes
   arm-16 w p = effect-ext e k h g (w .0) (these 1 1 1 kind-ext _ 0x16 [] tt p) (w .1)
 
-  pub arm-2c : ByRow stop-on k h g 2 0 1 r × (r .stop ≢ stop-doubt → operand e k ≤ 63) → At e k (0x2c ∷ 0x2e ∷ []) → HasEffect e k h g r
+  pub arm-2c : ByRow stop-on k h g 2 0 1 r × (r .stop ≢ stop-doubt → operand e k < 64) → OpcodeAt e k (0x2c ∷ 0x2e ∷ []) → HasEffect e k h g r
   unfolding classOf opcodes
   arm-2c w p = effect-variable e k h g stop-on 0 (w .0) (these 2 0 1 kind-variable _ 0x2c (0x2e ∷ []) tt p) (w .1) refl refl
 
-  pub arm-2d : ByRow stop-sets k h g 2 1 1 r × (r .stop ≢ stop-doubt → operand e k ≤ 63) → At e k (0x2d ∷ []) → HasEffect e k h g r
+  pub arm-2d : ByRow stop-sets k h g 2 1 1 r × (r .stop ≢ stop-doubt → operand e k < 64) → OpcodeAt e k (0x2d ∷ []) → HasEffect e k h g r
   unfolding classOf opcodes
   arm-2d w p = effect-setv e k h g stop-sets 1 (w .0) (these 2 1 1 kind-variable _ 0x2d [] tt p) (w .1) refl
 
-  pub arm-32 : ByRow stop-on k h g 1 (1 + picked e k) (2 + picked e k) r → At e k (0x32 ∷ []) → HasEffect e k h g r
+  pub arm-32 : ByRow stop-on k h g 1 (1 + picked e k) (2 + picked e k) r → OpcodeAt e k (0x32 ∷ []) → HasEffect e k h g r
   unfolding classOf opcodes
   arm-32 w p = effect-pick e k h g w (these 1 1 2 kind-pick _ 0x32 [] tt p)
 
-  pub arm-20 : r .stop ≡ stop-if-goto → At e k (0x20 ∷ []) → HasEffect e k h g r
+  pub arm-20 : r .stop ≡ stop-if-goto → OpcodeAt e k (0x20 ∷ []) → HasEffect e k h g r
   unfolding classOf opcodes
   arm-20 s p = effect-if-goto e k h g s (these 2 1 0 kind-if-goto _ 0x20 [] tt p)
 
-  pub arm-21 : r .stop ≡ stop-goto → At e k (0x21 ∷ []) → HasEffect e k h g r
+  pub arm-21 : r .stop ≡ stop-goto → OpcodeAt e k (0x21 ∷ []) → HasEffect e k h g r
   unfolding classOf opcodes
   arm-21 s p = effect-goto e k h g s (these 2 0 0 kind-goto _ 0x21 [] tt p)
 
-  pub arm-27 : r .stop ≡ stop-end → At e k (0x27 ∷ []) → HasEffect e k h g r
+  pub arm-27 : r .stop ≡ stop-end → OpcodeAt e k (0x27 ∷ []) → HasEffect e k h g r
   unfolding classOf opcodes
   arm-27 s p = effect-end e k h g s (these 0 0 0 kind-end _ 0x27 [] tt p)

@@ -1,3 +1,2 @@
--- What the code of `acceptor` knows at a start, in terms of the definitions of `verdict`.
-pub mod StraightCode
-pub mod CodeWithJumps
+-- What the answers of `acceptor` mean is the verdict (crate `verdict`); here is only what joins its functions.
+pub mod joining

@@ -7,32 +7,45 @@ ghost use Prim.Native.Nat.{ℕ, _+_, _≤_, _<_, max};
 ghost use lib.ListN.{length, getD};
 ghost use mathlib.Core.Bool.{false};
 ghost use mathlib.Core.List.{List};
+ghost use Rattle.sizes.specs.Sizes.{«expression-most»};
 ghost use Rattle.isa.specs.Classes.{setv};
 ghost use Rattle.isa.specs.Decode.{classAt};
 ghost use Rattle.verdict.specs.Pass3.{unreached};
-ghost use Rattle.passes.specs.Tables.{Unmeasured};
-ghost use Rattle.acceptor.specs.StraightCode.{«stop-on», «stop-doubt», IsJump, IsIfGoto, IsGoto, IsEnd, GoesOn, HasEffect, Following};
-ghost use Rattle.acceptor.specs.CodeWithJumps.{JoinsOr, Jumped, Brought, Branching, Joined, Turns, Concluded};
+ghost use Rattle.passes.specs.joining.Tables.{Unmeasured};
+ghost use Rattle.acceptor.specs.joining.StraightCode.{«stop-on», «stop-doubt», IsJump, IsIfGoto, IsGoto, IsEnd, GoesOn, HasEffect, Following};
+ghost use Rattle.acceptor.specs.joining.CodeWithJumps.{JoinsOr, Jumped, Brought, Branching, BranchingJoined, Turns, Concluded};
 use crate::ACCEPTED;
+use crate::AT_END;
+use crate::AT_GOTO;
+use crate::AT_IF_GOTO;
 use crate::DOUBT;
-use crate::END;
-use crate::Effect;
-use crate::GOTO;
-use crate::IF_GOTO;
-use crate::Join;
-use crate::Jump;
 use crate::ON;
+use crate::Progress;
 use crate::SETS;
-use crate::State;
 use crate::Stop;
+use crate::effects::HeightEffect;
 use crate::effects::by_row;
 use crate::effects::ext;
 use crate::effects::halt;
 use crate::effects::pick;
 use crate::effects::variable;
 use isa::Stack;
-use passes::Flow;
 use passes::brought;
+use passes::brought::Flow;
+
+// What jumps have brought to a start, joined with what flows in: ON or DOUBT; the farther distance; the targets met.
+pub(crate) struct JoinEnd {
+    pub stop: u8,
+    pub distance: usize,
+    pub met: usize,
+}
+
+// What a jump leaves: ON or DOUBT; the height behind it; the targets noted.
+pub(crate) struct JumpEnd {
+    pub stop: u8,
+    pub height: usize,
+    pub noted: usize,
+}
 
 // What jumps have brought to the start `at` meets what flows in: the same height, or doubt.
 fn join(
@@ -42,26 +55,26 @@ fn join(
     met: usize,
     heights: &[u8],
     distances: &[u16],
-) -> Join
+) -> JoinEnd
     requires { ⌜ (at < length (now heights)) × (at < length (now distances)) × (met ≤ 1024) ⌝ }
     ensures { λ r. ⌜ JoinsOr (getD (now (heights .entry)) at 0) (getD (now (distances .entry)) at 0) height distance met r ⌝ }
 {
     let cell = brought::wide(heights[at]);
     if cell == brought::UNREACHED {
-        return Join {
+        return JoinEnd {
             stop: ON,
             distance,
             met,
         };
     }
     if cell != height {
-        return Join {
+        return JoinEnd {
             stop: DOUBT,
             distance,
             met,
         };
     }
-    Join {
+    JoinEnd {
         stop: ON,
         distance: brought::greater(brought::wide16(distances[at]), distance),
         met: met + 1,
@@ -80,10 +93,10 @@ fn brought_to(at: usize, heights: &[u8], distances: &[u16]) -> Flow
     }
 }
 
-fn no_jump(at: usize) -> Jump
+fn no_jump(at: usize) -> JumpEnd
     ensures { λ r. ⌜ r .stop ≡ stop-doubt ⌝ }
 {
-    Jump {
+    JumpEnd {
         stop: DOUBT,
         height: at,
         noted: 0,
@@ -110,8 +123,8 @@ fn jump(
     noted: usize,
     heights: &mut [u8],
     distances: &mut [u16],
-) -> Jump
-    requires { ⌜ (at < length (now e)) × (length (now e) ≤ 1024) × (length (now e) ≤ length (now heights)) × (length (now e) ≤ length (now distances)) × (distance ≤ 1024) × (noted ≤ 1024) × IsJump (now e) at needed ⌝ }
+) -> JumpEnd
+    requires { ⌜ (at < length (now e)) × (length (now e) ≤ expression-most) × (length (now e) ≤ length (now heights)) × (length (now e) ≤ length (now distances)) × (distance ≤ 1024) × (noted ≤ 1024) × IsJump (now e) at needed ⌝ }
     ensures { λ r. ⌜ Jumped (now (e .entry)) at height distance noted (now (heights .entry)) (now (distances .entry)) r (now (heights .exit)) (now (distances .exit)) ⌝ }
 {
     if e.len() - at < 4 {
@@ -133,17 +146,17 @@ fn jump(
     let fresh = is_new(brought::wide(heights[target]));
     let after = height - needed;
     brought::arrive_at(target, after, distance + 1, heights, distances);
-    Jump {
+    JumpEnd {
         stop: ON,
         height: after,
         noted: noted + fresh,
     }
 }
 
-fn in_doubt(s: State) -> State
+fn in_doubt(s: Progress) -> Progress
     ensures { λ r. ⌜ r .stop ≡ stop-doubt ⌝ }
 {
-    State {
+    Progress {
         stop: DOUBT,
         at: s.at,
         height: s.height,
@@ -158,8 +171,8 @@ fn in_doubt(s: State) -> State
 }
 
 // An if_goto: its target, or the next start.
-fn at_if_goto(e: &[u8], s: State, heights: &mut [u8], distances: &mut [u16]) -> State
-    requires { ⌜ Joined (now e) s (now heights) (now distances) × IsIfGoto (now e) (s .at) ⌝ }
+fn at_if_goto(e: &[u8], s: Progress, heights: &mut [u8], distances: &mut [u16]) -> Progress
+    requires { ⌜ BranchingJoined (now e) s (now heights) (now distances) × IsIfGoto (now e) (s .at) ⌝ }
     ensures { λ r. ⌜ Turns (now (e .entry)) (s .at) r (now (heights .exit)) (now (distances .exit)) ⌝ }
 {
     let at = s.at;
@@ -167,7 +180,7 @@ fn at_if_goto(e: &[u8], s: State, heights: &mut [u8], distances: &mut [u16]) -> 
     if jump.stop != ON {
         return in_doubt(s);
     }
-    State {
+    Progress {
         stop: ON,
         at: at + 3,
         height: jump.height,
@@ -182,8 +195,8 @@ fn at_if_goto(e: &[u8], s: State, heights: &mut [u8], distances: &mut [u16]) -> 
 }
 
 // A goto: the next start is reached by jumps.
-fn at_goto(e: &[u8], s: State, heights: &mut [u8], distances: &mut [u16]) -> State
-    requires { ⌜ Joined (now e) s (now heights) (now distances) × IsGoto (now e) (s .at) ⌝ }
+fn at_goto(e: &[u8], s: Progress, heights: &mut [u8], distances: &mut [u16]) -> Progress
+    requires { ⌜ BranchingJoined (now e) s (now heights) (now distances) × IsGoto (now e) (s .at) ⌝ }
     ensures { λ r. ⌜ Turns (now (e .entry)) (s .at) r (now (heights .exit)) (now (distances .exit)) ⌝ }
 {
     let at = s.at;
@@ -196,7 +209,7 @@ fn at_goto(e: &[u8], s: State, heights: &mut [u8], distances: &mut [u16]) -> Sta
     if s.greatest < flow.height {
         return in_doubt(s);
     }
-    State {
+    Progress {
         stop: ON,
         at: next,
         height: flow.height,
@@ -211,9 +224,9 @@ fn at_goto(e: &[u8], s: State, heights: &mut [u8], distances: &mut [u16]) -> Sta
 }
 
 // An end that is the last byte. Where as many targets were met as noted, each is a start.
-fn at_last(s: State, longest: usize) -> State
+fn at_last(s: Progress, longest: usize) -> Progress
     requires { ⌜ s .count ≤ 1024 ⌝ }
-    ensures { λ r. ⌜ ((e hs ds : List ℕ) → Joined e s hs ds → IsEnd e (s .at) → s .at + 1 ≡ length e → longest ≡ max (s .longest) (s .distance + 1) → Turns e (s .at) r hs ds) ⌝ }
+    ensures { λ r. ⌜ ((e hs ds : List ℕ) → BranchingJoined e s hs ds → IsEnd e (s .at) → s .at + 1 ≡ length e → longest ≡ max (s .longest) (s .distance + 1) → Turns e (s .at) r hs ds) ⌝ }
 {
     if s.noted != s.met {
         return in_doubt(s);
@@ -221,7 +234,7 @@ fn at_last(s: State, longest: usize) -> State
     if Stack::DEPTH < s.greatest {
         return in_doubt(s);
     }
-    State {
+    Progress {
         stop: ACCEPTED,
         at: s.at,
         height: s.height,
@@ -236,8 +249,8 @@ fn at_last(s: State, longest: usize) -> State
 }
 
 // An end: the last byte, or the next start is reached by jumps.
-fn at_end(e: &[u8], s: State, heights: &[u8], distances: &[u16]) -> State
-    requires { ⌜ Joined (now e) s (now heights) (now distances) × IsEnd (now e) (s .at) ⌝ }
+fn at_end(e: &[u8], s: Progress, heights: &[u8], distances: &[u16]) -> Progress
+    requires { ⌜ BranchingJoined (now e) s (now heights) (now distances) × IsEnd (now e) (s .at) ⌝ }
     ensures { λ r. ⌜ Turns (now (e .entry)) (s .at) r (now (heights .entry)) (now (distances .entry)) ⌝ }
 {
     let next = s.at + 1;
@@ -249,7 +262,7 @@ fn at_end(e: &[u8], s: State, heights: &[u8], distances: &[u16]) -> State
     if s.greatest < flow.height {
         return in_doubt(s);
     }
-    State {
+    Progress {
         stop: ON,
         at: next,
         height: flow.height,
@@ -265,8 +278,8 @@ fn at_end(e: &[u8], s: State, heights: &[u8], distances: &[u16]) -> State
 
 // The instruction at `at`, reached with that height. The arms are those of straight code: one function that two loops
 // call would be placed in neither, and every instruction would pay for a call.
-fn effect_at(e: &[u8], at: usize, height: usize, greatest: usize) -> Effect
-    requires { ⌜ (at < length (now e)) × (length (now e) ≤ 1024) × (height ≤ 2048) × (height ≤ greatest) ⌝ }
+fn effect_at(e: &[u8], at: usize, height: usize, greatest: usize) -> HeightEffect
+    requires { ⌜ (at < length (now e)) × (length (now e) ≤ expression-most) × (height ≤ 2048) × (height ≤ greatest) ⌝ }
     ensures { λ r. ⌜ HasEffect (now (e .entry)) at height greatest r ⌝ }
 {
     let opcode = e[at];
@@ -292,19 +305,19 @@ fn effect_at(e: &[u8], at: usize, height: usize, greatest: usize) -> Effect
         0x2c | 0x2e => variable(e, at, height, greatest, ON, 0),
         0x2d => variable(e, at, height, greatest, SETS, 1),
         0x32 => pick(e, at, height, greatest),
-        0x20 => halt(IF_GOTO),
-        0x21 => halt(GOTO),
-        0x27 => halt(END),
+        0x20 => halt(AT_IF_GOTO),
+        0x21 => halt(AT_GOTO),
+        0x27 => halt(AT_END),
         _ => halt(DOUBT),
     }
 }
 
 // An instruction that goes on to the next start.
-fn onward(s: State, effect: Effect, sets: bool) -> State
+fn onward(s: Progress, effect: HeightEffect, sets: bool) -> Progress
     requires { ⌜ (s .distance ≤ 1024) × (s .count ≤ 1024) ⌝ }
-    ensures { λ r. ⌜ ((e hs ds : List ℕ) → Joined e s hs ds → GoesOn e (s .at) (s .height) (s .greatest) effect → (sets ≡ false → (s .sets ≡ false) × (classAt e (s .at) ≢ setv)) → Turns e (s .at) r hs ds) ⌝ }
+    ensures { λ r. ⌜ ((e hs ds : List ℕ) → BranchingJoined e s hs ds → GoesOn e (s .at) (s .height) (s .greatest) effect → (sets ≡ false → (s .sets ≡ false) × (classAt e (s .at) ≢ setv)) → Turns e (s .at) r hs ds) ⌝ }
 {
-    State {
+    Progress {
         stop: ON,
         at: effect.at,
         height: effect.height,
@@ -319,21 +332,21 @@ fn onward(s: State, effect: Effect, sets: bool) -> State
 }
 
 // The instruction of a start, where all that comes to it is joined.
-fn turn(e: &[u8], s: State, heights: &mut [u8], distances: &mut [u16]) -> State
-    requires { ⌜ Joined (now e) s (now heights) (now distances) ⌝ }
+fn turn(e: &[u8], s: Progress, heights: &mut [u8], distances: &mut [u16]) -> Progress
+    requires { ⌜ BranchingJoined (now e) s (now heights) (now distances) ⌝ }
     ensures { λ r. ⌜ Turns (now (e .entry)) (s .at) r (now (heights .exit)) (now (distances .exit)) ⌝ }
 {
     let effect = effect_at(e, s.at, s.height, s.greatest);
     if effect.stop == ON {
         return onward(s, effect, s.sets);
     }
-    if effect.stop == IF_GOTO {
+    if effect.stop == AT_IF_GOTO {
         return at_if_goto(e, s, heights, distances);
     }
-    if effect.stop == GOTO {
+    if effect.stop == AT_GOTO {
         return at_goto(e, s, heights, distances);
     }
-    if effect.stop == END {
+    if effect.stop == AT_END {
         return at_end(e, s, heights, distances);
     }
     if effect.stop == SETS {
@@ -343,7 +356,7 @@ fn turn(e: &[u8], s: State, heights: &mut [u8], distances: &mut [u16]) -> State
 }
 
 // One start: what comes to it, and what it passes on.
-fn at_start(e: &[u8], s: State, heights: &mut [u8], distances: &mut [u16]) -> State
+fn at_start(e: &[u8], s: Progress, heights: &mut [u8], distances: &mut [u16]) -> Progress
     requires { ⌜ Branching (now e) s (now heights) (now distances) ⌝ }
     ensures { λ r. ⌜ Turns (now (e .entry)) (s .at) r (now (heights .exit)) (now (distances .exit)) ⌝ }
 {
@@ -352,7 +365,7 @@ fn at_start(e: &[u8], s: State, heights: &mut [u8], distances: &mut [u16]) -> St
     if join.stop != ON {
         return in_doubt(s);
     }
-    let here = State {
+    let here = Progress {
         stop: ON,
         at,
         height: s.height,
@@ -368,12 +381,12 @@ fn at_start(e: &[u8], s: State, heights: &mut [u8], distances: &mut [u16]) -> St
 }
 
 // From the first jump to the end of the expression, or to a doubt.
-fn follow(e: &[u8], from: Stop, heights: &mut [u8], distances: &mut [u16]) -> State
-    requires { ⌜ (length (now e) ≤ 1024) × Following (now e) (from .at) (from .height) (from .count) (from .greatest) (from .sets) × Unmeasured (now e) (now heights) (now distances) ⌝ }
+fn follow(e: &[u8], from: Stop, heights: &mut [u8], distances: &mut [u16]) -> Progress
+    requires { ⌜ (length (now e) ≤ expression-most) × Following (now e) (from .at) (from .height) (from .count) (from .greatest) (from .sets) × Unmeasured (now e) (now heights) (now distances) ⌝ }
     ensures { λ r. ⌜ Concluded (now (e .entry)) r ⌝ }
 {
     let mut at = from.at;
-    let mut s = State {
+    let mut s = Progress {
         stop: ON,
         at: from.at,
         height: from.height,
@@ -396,26 +409,26 @@ fn follow(e: &[u8], from: Stop, heights: &mut [u8], distances: &mut [u16]) -> St
 }
 
 // Short expressions have short tables, which are soon cleared.
-pub(crate) fn follow_short(e: &[u8], from: Stop) -> State
+pub(crate) fn follow_short(e: &[u8], from: Stop) -> Progress
     requires { ⌜ (length (now e) ≤ 128) × Following (now e) (from .at) (from .height) (from .count) (from .greatest) (from .sets) ⌝ }
     ensures { λ r. ⌜ Concluded (now (e .entry)) r ⌝ }
 {
-    let mut heights = [255u8; 128];
+    let mut heights = [verdict::UNREACHED; 128];
     let mut distances = [0u16; 128];
     follow(e, from, &mut heights, &mut distances)
 }
 
 // The others have tables for 1,024 bytes. No expression is longer, so that the call of itself is never made: it keeps
 // the compiler from placing this function in its caller, whose frame would then have these tables for every expression.
-pub(crate) fn follow_long(e: &[u8], from: Stop) -> State
-    requires { ⌜ (length (now e) ≤ 1024) × Following (now e) (from .at) (from .height) (from .count) (from .greatest) (from .sets) ⌝ }
+pub(crate) fn follow_long(e: &[u8], from: Stop) -> Progress
+    requires { ⌜ (length (now e) ≤ expression-most) × Following (now e) (from .at) (from .height) (from .count) (from .greatest) (from .sets) ⌝ }
     ensures { λ r. ⌜ Concluded (now (e .entry)) r ⌝ }
 {
-    if 1024 < e.len() {
+    if sizes::EXPRESSION_MOST < e.len() {
         let again = follow_long(e, from);
         return in_doubt(again);
     }
-    let mut heights = [255u8; 1024];
-    let mut distances = [0u16; 1024];
+    let mut heights = [verdict::UNREACHED; sizes::EXPRESSION_MOST];
+    let mut distances = [0u16; sizes::EXPRESSION_MOST];
     follow(e, from, &mut heights, &mut distances)
 }

@@ -4,18 +4,26 @@ ghost use mathlib.Core.Path.{_≡_};
 ghost use mathlib.Core.Logic.{_≢_};
 ghost use Prim.Native.Nat.{_+_, _≤_, _<_, max};
 ghost use lib.ListN.{length};
+ghost use Rattle.sizes.specs.Sizes.{«expression-most», «variable-count»};
 ghost use Rattle.isa.specs.Classes.{«kind-ext», «kind-variable», «kind-pick»};
 ghost use Rattle.isa.specs.Decode.{kindAt, operand, picked};
-ghost use Rattle.acceptor.specs.StraightCode.{«stop-on», «stop-doubt», ByRow};
-use crate::Effect;
+ghost use Rattle.acceptor.specs.joining.StraightCode.{«stop-on», «stop-doubt», ByRow};
 use passes::brought;
+
+// What an instruction leaves where it goes on: the offset and the height of the next start, and the greatest height.
+pub(crate) struct HeightEffect {
+    pub stop: u8,
+    pub at: usize,
+    pub height: usize,
+    pub greatest: usize,
+}
 
 // An instruction behind which the pass does not go on by itself: a jump, an end, or doubt. Its offset and height are of
 // no use, and are no sums of others: the compiler would compute them where the instruction goes on.
-pub(crate) fn halt(stop: u8) -> Effect
+pub(crate) fn halt(stop: u8) -> HeightEffect
     ensures { λ r. ⌜ r .stop ≡ stop ⌝ }
 {
-    Effect {
+    HeightEffect {
         stop,
         at: 0,
         height: 0,
@@ -23,8 +31,8 @@ pub(crate) fn halt(stop: u8) -> Effect
     }
 }
 
-// The greatest height behind an instruction that needs and leaves so many cells. Only one that leaves more can raise it:
-// where both are literals, no other compares.
+// The greatest height behind an instruction that needs and leaves so many cells. Only one that leaves more can raise
+// it: where both are literals, no other compares.
 fn greatest_after(needed: usize, left: usize, after: usize, greatest: usize) -> usize
     requires { ⌜ (left ≤ needed → after ≤ greatest) ⌝ }
     ensures { λ r. ⌜ r ≡ max greatest after ⌝ }
@@ -44,7 +52,7 @@ pub(crate) fn by_row(
     operands: usize,
     needed: usize,
     left: usize,
-) -> Effect
+) -> HeightEffect
     requires { ⌜ (at < 1024) × (height ≤ 2048) × (height ≤ greatest) × (operands ≤ 8) × (left ≤ 512) ⌝ }
     ensures { λ r. ⌜ ByRow stop at height greatest operands needed left r ⌝ }
 {
@@ -52,7 +60,7 @@ pub(crate) fn by_row(
         return halt(crate::DOUBT);
     }
     let after = height - needed + left;
-    Effect {
+    HeightEffect {
         stop,
         at: at + 1 + operands,
         height: after,
@@ -61,8 +69,8 @@ pub(crate) fn by_row(
 }
 
 // ext N: N is not 0.
-pub(crate) fn ext(e: &[u8], at: usize, height: usize, greatest: usize) -> Effect
-    requires { ⌜ (at < length (now e)) × (length (now e) ≤ 1024) × (height ≤ 2048) × (height ≤ greatest) × (kindAt (now e) at ≡ kind-ext) ⌝ }
+pub(crate) fn ext(e: &[u8], at: usize, height: usize, greatest: usize) -> HeightEffect
+    requires { ⌜ (at < length (now e)) × (length (now e) ≤ expression-most) × (height ≤ 2048) × (height ≤ greatest) × (kindAt (now e) at ≡ kind-ext) ⌝ }
     ensures { λ r. ⌜ ByRow stop-on at height greatest 1 1 1 r × (r .stop ≢ stop-doubt → 1 ≤ operand (now (e .entry)) at) ⌝ }
 {
     if e.len() - at < 2 {
@@ -82,22 +90,22 @@ pub(crate) fn variable(
     greatest: usize,
     stop: u8,
     needed: usize,
-) -> Effect
-    requires { ⌜ (at < length (now e)) × (length (now e) ≤ 1024) × (height ≤ 2048) × (height ≤ greatest) × (kindAt (now e) at ≡ kind-variable) ⌝ }
-    ensures { λ r. ⌜ ByRow stop at height greatest 2 needed 1 r × (r .stop ≢ stop-doubt → operand (now (e .entry)) at ≤ 63) ⌝ }
+) -> HeightEffect
+    requires { ⌜ (at < length (now e)) × (length (now e) ≤ expression-most) × (height ≤ 2048) × (height ≤ greatest) × (kindAt (now e) at ≡ kind-variable) ⌝ }
+    ensures { λ r. ⌜ ByRow stop at height greatest 2 needed 1 r × (r .stop ≢ stop-doubt → operand (now (e .entry)) at < variable-count) ⌝ }
 {
     if e.len() - at < 3 {
         return halt(crate::DOUBT);
     }
-    if 63 < isa::operand_at(e, at, 2) {
+    if sizes::VARIABLE_COUNT as u64 <= isa::operand_at(e, at, 2) {
         return halt(crate::DOUBT);
     }
     by_row(at, height, greatest, stop, 2, needed, 1)
 }
 
 // pick N: N comes on top of its row.
-pub(crate) fn pick(e: &[u8], at: usize, height: usize, greatest: usize) -> Effect
-    requires { ⌜ (at < length (now e)) × (length (now e) ≤ 1024) × (height ≤ 2048) × (height ≤ greatest) × (kindAt (now e) at ≡ kind-pick) ⌝ }
+pub(crate) fn pick(e: &[u8], at: usize, height: usize, greatest: usize) -> HeightEffect
+    requires { ⌜ (at < length (now e)) × (length (now e) ≤ expression-most) × (height ≤ 2048) × (height ≤ greatest) × (kindAt (now e) at ≡ kind-pick) ⌝ }
     ensures { λ r. ⌜ ByRow stop-on at height greatest 1 (1 + picked (now (e .entry)) at) (2 + picked (now (e .entry)) at) r ⌝ }
 {
     if e.len() - at < 2 {

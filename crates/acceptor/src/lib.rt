@@ -5,8 +5,9 @@ ghost use mathlib.Core.Path.{_≡_};
 ghost use mathlib.Core.Logic.{_≢_};
 ghost use Prim.Native.Nat.{_≤_};
 ghost use lib.ListN.{length};
-ghost use Rattle.acceptor.specs.StraightCode.{Following, Straight};
-ghost use Rattle.acceptor.specs.CodeWithJumps.{Concluded};
+ghost use Rattle.sizes.specs.Sizes.{«expression-most»};
+ghost use Rattle.acceptor.specs.joining.StraightCode.{Following, Straight};
+ghost use Rattle.acceptor.specs.joining.CodeWithJumps.{Concluded};
 use isa::Stack;
 
 mod branching;
@@ -19,23 +20,15 @@ pub const ON: u8 = 0;
 
 pub const DOUBT: u8 = 1;
 
-pub const IF_GOTO: u8 = 2;
+pub const AT_IF_GOTO: u8 = 2;
 
-pub const END: u8 = 3;
+pub const AT_END: u8 = 3;
 
-pub const GOTO: u8 = 4;
+pub const AT_GOTO: u8 = 4;
 
 pub const SETS: u8 = 5;
 
 pub const ACCEPTED: u8 = 6;
-
-// What an instruction leaves where it goes on: the offset and the height of the next start, and the greatest height.
-pub struct Effect {
-    pub stop: u8,
-    pub at: usize,
-    pub height: usize,
-    pub greatest: usize,
-}
 
 // Where the pass over straight code stopped: the offset, the height there, the instructions before it, the greatest
 // height, and whether one of them is a setv. Accepted: the last instruction is counted too.
@@ -48,24 +41,10 @@ pub struct Stop {
     pub sets: bool,
 }
 
-// What jumps have brought to a start, joined with what flows in: ON or DOUBT; the farther distance; the targets met.
-pub struct Join {
-    pub stop: u8,
-    pub distance: usize,
-    pub met: usize,
-}
-
-// What a jump leaves: ON or DOUBT; the height behind it; the targets noted.
-pub struct Jump {
-    pub stop: u8,
-    pub height: usize,
-    pub noted: usize,
-}
-
 // Where the pass over code with jumps stands: ON, DOUBT or ACCEPTED; the offset, the height and the distance that flow
 // in; the instructions before it; the greatest height; the longest walk to an end; how many targets were noted, and how
 // many of them were met as starts; whether a setv came.
-pub struct State {
+pub struct Progress {
     pub stop: u8,
     pub at: usize,
     pub height: usize,
@@ -80,11 +59,11 @@ pub struct State {
 
 // An expression up to its first jump, or to an end that is not its last byte. Straight code is accepted here.
 pub fn accept_straight(e: &[u8]) -> Stop
-    requires { ⌜ length (now e) ≤ 1024 ⌝ }
+    requires { ⌜ length (now e) ≤ expression-most ⌝ }
     ensures { λ r. ⌜ Straight (now (e .entry)) r ⌝ }
 {
     let stop = straight::follow(e);
-    if stop.stop != END {
+    if stop.stop != AT_END {
         return stop;
     }
     if stop.at + 1 != e.len() {
@@ -104,8 +83,8 @@ pub fn accept_straight(e: &[u8]) -> Stop
 }
 
 // The rest of it, from there on.
-pub fn accept_branching(e: &[u8], from: Stop) -> State
-    requires { ⌜ (length (now e) ≤ 1024) × Following (now e) (from .at) (from .height) (from .count) (from .greatest) (from .sets) ⌝ }
+pub fn accept_branching(e: &[u8], from: Stop) -> Progress
+    requires { ⌜ (length (now e) ≤ expression-most) × Following (now e) (from .at) (from .height) (from .count) (from .greatest) (from .sets) ⌝ }
     ensures { λ r. ⌜ Concluded (now (e .entry)) r ⌝ }
 {
     if e.len() <= 128 {

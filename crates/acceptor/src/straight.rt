@@ -3,15 +3,16 @@
 ghost use mathlib.Core.Path.{_≡_};
 ghost use Prim.Native.Nat.{_≤_, _<_};
 ghost use lib.ListN.{length};
-ghost use Rattle.acceptor.specs.StraightCode.{HasEffect, Followed};
+ghost use Rattle.sizes.specs.Sizes.{«expression-most»};
+ghost use Rattle.acceptor.specs.joining.StraightCode.{HasEffect, Followed};
+use crate::AT_END;
+use crate::AT_GOTO;
+use crate::AT_IF_GOTO;
 use crate::DOUBT;
-use crate::END;
-use crate::Effect;
-use crate::GOTO;
-use crate::IF_GOTO;
 use crate::ON;
 use crate::SETS;
 use crate::Stop;
+use crate::effects::HeightEffect;
 use crate::effects::by_row;
 use crate::effects::ext;
 use crate::effects::halt;
@@ -20,8 +21,8 @@ use crate::effects::variable;
 
 // The instruction at `at`, reached with that height. Neighbours of one row stand in two arms: as one arm they would be
 // tested for as a range before the jump table, which joins them again.
-fn effect_at(e: &[u8], at: usize, height: usize, greatest: usize) -> Effect
-    requires { ⌜ (at < length (now e)) × (length (now e) ≤ 1024) × (height ≤ 2048) × (height ≤ greatest) ⌝ }
+fn effect_at(e: &[u8], at: usize, height: usize, greatest: usize) -> HeightEffect
+    requires { ⌜ (at < length (now e)) × (length (now e) ≤ expression-most) × (height ≤ 2048) × (height ≤ greatest) ⌝ }
     ensures { λ r. ⌜ HasEffect (now (e .entry)) at height greatest r ⌝ }
 {
     let opcode = e[at];
@@ -47,16 +48,16 @@ fn effect_at(e: &[u8], at: usize, height: usize, greatest: usize) -> Effect
         0x2c | 0x2e => variable(e, at, height, greatest, ON, 0),
         0x2d => variable(e, at, height, greatest, SETS, 1),
         0x32 => pick(e, at, height, greatest),
-        0x20 => halt(IF_GOTO),
-        0x21 => halt(GOTO),
-        0x27 => halt(END),
+        0x20 => halt(AT_IF_GOTO),
+        0x21 => halt(AT_GOTO),
+        0x27 => halt(AT_END),
         _ => halt(DOUBT),
     }
 }
 
 // From offset 0 to the first jump, end or doubt.
 pub(crate) fn follow(e: &[u8]) -> Stop
-    requires { ⌜ length (now e) ≤ 1024 ⌝ }
+    requires { ⌜ length (now e) ≤ expression-most ⌝ }
     ensures { λ r. ⌜ Followed (now (e .entry)) r ⌝ }
 {
     let mut at = 0;

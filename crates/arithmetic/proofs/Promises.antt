@@ -1,4 +1,5 @@
--- What users of `arithmetic` may cite, each law stated in full and proved where it is named. The contracts of src/lib.rt are the rest.
+-- What users of `arithmetic` may cite, each law stated in full and proved where it is named. The contracts of
+-- src/lib.rt are the rest.
 use mathlib.Core.Path.{_≡_, sym}
 use Prim.Native.Nat.{ℕ, _-_, _^_, _<_, _≤_}
 use native.Mathlib.Nat.{lt-of-le-of-lt, div-le-self, mod-le}
@@ -73,7 +74,8 @@ module _ (a b : ℕ) where
 pub log-not-most : (a : ℕ) → logNot a ≤ 1
 log-not-most = results.log-not-most
 
--- ---- two's complement: the word of a word's signed number is that word; a word is 64 bits that stand for a signed number
+-- ---- two's complement: the word of a word's signed number is that word; a word is 64 bits that stand for a signed
+-- number
 pub word-signed : (a : ℕ) → a < 2 ^ 64 → word (signed a) ≡ a
 word-signed = results.word-signed
 

@@ -1,5 +1,5 @@
--- Signed numbers by the top bit of their words, and the operators on them. The code computes with signed integers, which the logic reads back from their
--- words: `signed (word x)`.
+-- Signed numbers by the top bit of their words, and the operators on them. The code computes with signed integers,
+-- which the logic reads back from their words: `signed (word x)`.
 use mathlib.Core.Path.{_≡_, refl, sym, ap, _∙_, subst}
 use mathlib.Core.Bool.{Bool, true, false}
 use Prim.Native.Nat.{ℕ, zero, suc, _-_, _/_, _%_, _^_, _<_, _≤_}

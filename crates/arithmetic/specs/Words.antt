@@ -1,5 +1,6 @@
--- What each operator computes on words of 64 bits, the natural numbers below 2 ^ 64: the GDB manual, "Bytecode Descriptions" (source document 003), and
--- document 01, "Meanings the manual leaves open". An operator has its opcode's name; of two operands a is the next-to-top value and b the top.
+-- What each operator computes on words of 64 bits, the natural numbers below 2 ^ 64: the GDB manual, "Bytecode
+-- Descriptions" (source document 003), and document 01, "Meanings the manual leaves open". An operator has its opcode's
+-- name; of two operands a is the next-to-top value and b the top.
 use mathlib.Core.Bool.{Bool, cond}
 use Prim.Native.Nat.{ℕ, _+_, _-_, _*_, _/_, _%_, _^_}
 use lib.Bits as Bits
@@ -28,7 +29,8 @@ sub a b = (a + (2 ^ 64 - b)) % 2 ^ 64
 abbrev pub mul : ℕ → ℕ → ℕ
 mul a b = a * b % 2 ^ 64
 
--- ---- "Signed division rounds toward zero; the remainder has the dividend's sign. The least signed number divided by −1 gives itself, remainder 0": its
+-- ---- "Signed division rounds toward zero; the remainder has the dividend's sign. The least signed number divided by
+-- −1 gives itself, remainder 0": its
 -- quotient 2 ^ 63 is the word that stands for the least number. A divisor of 0 is refused before (17).
 unfoldable pub divSigned : ℕ → ℕ → ℕ
 divSigned a b = word (quotZ (signed a) (signed b))

@@ -33,7 +33,8 @@ pub fn mul(a: u64, b: u64) -> u64
     add(a_low * b_low, cross << 32)
 }
 
-// A cast is defined only where it keeps the number: a negative number goes by -1 - x, which is not negative. Both compile to nothing.
+// A cast is defined only where it keeps the number: a negative number goes by -1 - x, which is not negative. Both
+// compile to nothing.
 fn signed(a: u64) -> i64
     ensures { λ r. ⌜ r ≡ Words.signed a ⌝ }
 {

@@ -1,14 +1,14 @@
-// The command `frames`: lilivrez frames FILE [FRAME [RECORD]], and lilivrez frames FILE --gdb OUT. The file is the used part of a
-// trace buffer.
+// The command `frames`: lilivrez frames FILE [FRAME [RECORD]], and lilivrez frames FILE --gdb OUT. The file is the used
+// part of a trace buffer.
 use crate::gdb;
 use crate::show::print_frames;
 use crate::show::print_one_frame;
 use crate::show::print_one_record;
+use console_output::print_error;
+use console_output::print_error_of;
+use console_output::refuse_option;
 use files::Loaded;
-use output::print_error;
-use output::print_error_of;
-use output::refuse_option;
-use words::numbers::Number;
+use line_words::numbers::Number;
 
 // ---- the words of the command
 // What is to be shown: all frames, a frame, or a record of a frame. Or all frames are to be written for GDB.
@@ -21,7 +21,7 @@ enum Asked {
 
 // The number that a word of the command is; where it is none, the error is printed.
 fn read_number(word: &[u8]) -> Number {
-    let number = words::numbers::unsigned(word, 10);
+    let number = line_words::numbers::unsigned(word, 10);
     match number {
         Number::Value(v) => Number::Value(v),
         Number::Large => {

@@ -3,11 +3,11 @@ use crate::show::frame_refusal;
 use crate::show::print_completed_frames;
 use crate::show::print_frame;
 use crate::show::records_of;
-use output::print;
-use output::print_error_of;
+use console_output::print;
+use console_output::print_error_of;
 use phrases::numbers::append_count;
-use reader::Place;
-use reader::Reading;
+use reader::FrameAnswer;
+use reader::RecordAnswer;
 use std::num::wrapping_add_u64;
 
 // ---- the pieces of the file
@@ -25,7 +25,7 @@ fn write_variable(fd: i32, number: u64) -> bool {
 
 fn write_variables(fd: i32) -> bool {
     let mut number: u64 = 0;
-    while number < 64 {
+    while number < sizes::VARIABLE_COUNT as u64 {
         if !write_variable(fd, number) {
             return false;
         }
@@ -135,7 +135,8 @@ note: the file names the architecture i386:x86-64: none is recorded
     );
 }
 
-// How much GDB cannot show as it was recorded: frames of tracepoint 0 and of one above 32767, and records that end at the last address.
+// How much GDB cannot show as it was recorded: frames of tracepoint 0 and of one above 32767, and records that end at
+// the last address.
 struct Lost {
     zero: u64,
     large: u64,
@@ -148,18 +149,16 @@ fn one_if(is_met: bool) -> u64 {
 
 fn tracepoint_of(buffer: &[u8], used: usize, number: u64) -> u16 {
     match reader::locate(buffer, used, number) {
-        Place::NoFrame(refusal, offset) => 1,
-        Place::Frame(tracepoint, start, length) => tracepoint,
+        FrameAnswer::Refused(refusal) => 1,
+        FrameAnswer::Frame(tag, start, length) => tag.tracepoint,
     }
 }
 
 fn ends_last(buffer: &[u8], used: usize, number: u64, index: u64) -> bool {
     match reader::read(buffer, used, number, index) {
-        Reading::NoReading(refusal, offset) => false,
-        Reading::Variable(tracepoint, variable, value) => false,
-        Reading::Memory(tracepoint, address, length, place) => {
-            u64::MAX - address < length as u64
-        }
+        RecordAnswer::Refused(refusal) => false,
+        RecordAnswer::Variable(tag, variable, value) => false,
+        RecordAnswer::Memory(tag, address, length, place) => { u64::MAX - address < length as u64 }
     }
 }
 
@@ -202,9 +201,9 @@ fn note(count: u64, word: &[u8], what: &[u8]) {
         return;
     }
     let mut line = [0u8; 120];
-    let a = report::text::append(&mut line, 0, b"note: ");
+    let a = text_buffer::append(&mut line, 0, b"note: ");
     let b = append_count(&mut line, a, count, word);
-    let n = report::text::append(&mut line, b, what);
+    let n = text_buffer::append(&mut line, b, what);
     print(&line[..n]);
 }
 
@@ -231,7 +230,7 @@ fn note_frames(buffer: &[u8], used: usize, frames: u64) {
 // The number of the first frame that is refused; where only 24 is met, the number of frames.
 fn first_refused(buffer: &[u8], used: usize) -> u64 {
     let mut number: u64 = 0;
-    while number < 65536 {
+    while number < sizes::BUFFER_MOST as u64 {
         if frame_refusal(buffer, used, number) != 0 {
             return number;
         }
@@ -261,7 +260,7 @@ fn write_named(name: &[u8], buffer: &[u8], used: usize, frames: u64) {
 pub fn export(name: &[u8], buffer: &[u8]) {
     let used = buffer.len();
     let number = first_refused(buffer, used);
-    if frame_refusal(buffer, used, number) != 24 {
+    if frame_refusal(buffer, used, number) != refusals::NO_SUCH_FRAME {
         print_frame(buffer, used, number);
         return;
     }

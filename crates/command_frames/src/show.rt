@@ -3,23 +3,24 @@ ghost use mathlib.Core.Path.{_≡_};
 ghost use Prim.Native.Nat.{_≤_};
 ghost use Rattle.reader.specs.Located.{located};
 ghost use Rattle.reader.specs.Read.{counting};
-ghost use Rattle.command_frames.specs.Refusals.{recordsIn, refusalIn, walkRefusalIn, brokenIn};
-use output::print;
-use reader::Count;
-use reader::Place;
+ghost use Rattle.tracefile.specs.Frames.{recordCount};
+ghost use Rattle.command_frames.specs.Refusals.{refusalIn, walkRefusalIn, brokenIn};
+use console_output::print;
+use reader::CountAnswer;
+use reader::FrameAnswer;
 
 // ---- one record, one frame
 // Prints the line of the bytes from `offset` on; false where there is none.
 fn print_dump_line(buffer: &[u8], used: usize, number: u64, index: u64, offset: usize) -> bool {
     let mut line = [0u8; 160];
-    let n = display::dump::append_dump(&mut line, 0, buffer, used, number, index, offset);
+    let n = frame_lines::dump::append_dump(&mut line, 0, buffer, used, number, index, offset);
     print(&line[..n]);
     n != 0
 }
 
 fn print_dump(buffer: &[u8], used: usize, number: u64, index: u64) {
     let mut offset = 0;
-    while offset < 65536 {
+    while offset < sizes::BUFFER_MOST {
         if !print_dump_line(buffer, used, number, index, offset) {
             return;
         }
@@ -29,7 +30,7 @@ fn print_dump(buffer: &[u8], used: usize, number: u64, index: u64) {
 
 fn print_record(buffer: &[u8], used: usize, number: u64, index: u64) {
     let mut line = [0u8; 160];
-    let n = display::lines::append_record(&mut line, 0, buffer, used, number, index);
+    let n = frame_lines::lines::append_record(&mut line, 0, buffer, used, number, index);
     print(&line[..n]);
     print_dump(buffer, used, number, index);
 }
@@ -44,17 +45,17 @@ fn print_records(buffer: &[u8], used: usize, number: u64, records: usize) {
 
 fn print_frame_line(buffer: &[u8], used: usize, number: u64) {
     let mut line = [0u8; 160];
-    let n = display::lines::append_frame(&mut line, 0, buffer, used, number);
+    let n = frame_lines::lines::append_frame(&mut line, 0, buffer, used, number);
     print(&line[..n]);
 }
 
 // How many records a frame has; 0 where it is refused.
 pub fn records_of(buffer: &[u8], used: usize, number: u64) -> usize
-    ensures { λ r. ⌜ r ≡ recordsIn (counting (now (buffer .entry)) used number) ⌝ }
+    ensures { λ r. ⌜ r ≡ recordCount (counting (now (buffer .entry)) used number) ⌝ }
 {
     match reader::count_records(buffer, used, number) {
-        Count::Records(tracepoint, start, length, records) => records,
-        Count::NoCount(refusal, offset) => 0,
+        CountAnswer::Records(tag, start, length, records) => records,
+        CountAnswer::Refused(refusal) => 0,
     }
 }
 
@@ -66,7 +67,7 @@ pub fn print_frame(buffer: &[u8], used: usize, number: u64) {
 
 fn print_completed(number: u64, word: &[u8], refused: u64) {
     let mut line = [0u8; 160];
-    let n = display::lines::append_completed(&mut line, 0, number, word, refused);
+    let n = frame_lines::lines::append_completed(&mut line, 0, number, word, refused);
     print(&line[..n]);
 }
 
@@ -76,8 +77,8 @@ fn walk_refusal(buffer: &[u8], used: usize, number: u64) -> u8
     ensures { λ r. ⌜ r ≡ walkRefusalIn (located (now (buffer .entry)) used number) ⌝ }
 {
     match reader::locate(buffer, used, number) {
-        Place::Frame(tracepoint, start, length) => 0,
-        Place::NoFrame(refusal, offset) => refusal,
+        FrameAnswer::Frame(tag, start, length) => 0,
+        FrameAnswer::Refused(refusal) => refusal.number,
     }
 }
 
@@ -86,8 +87,8 @@ pub fn frame_refusal(buffer: &[u8], used: usize, number: u64) -> u8
     ensures { λ r. ⌜ r ≡ refusalIn (counting (now (buffer .entry)) used number) ⌝ }
 {
     match reader::count_records(buffer, used, number) {
-        Count::Records(tracepoint, start, length, records) => 0,
-        Count::NoCount(refusal, offset) => refusal,
+        CountAnswer::Records(tag, start, length, records) => 0,
+        CountAnswer::Refused(refusal) => refusal.number,
     }
 }
 
@@ -95,7 +96,7 @@ pub fn frame_refusal(buffer: &[u8], used: usize, number: u64) -> u8
 fn refused_in(buffer: &[u8], used: usize, number: u64) -> u64
     ensures { λ r. ⌜ (r ≡ brokenIn (counting (now (buffer .entry)) used number)) × (r ≤ 1) ⌝ }
 {
-    if frame_refusal(buffer, used, number) == 23 {
+    if frame_refusal(buffer, used, number) == refusals::RECORD_BROKEN {
         return 1;
     }
     0
@@ -109,9 +110,9 @@ pub fn print_completed_frames(number: u64, refused: u64) {
 pub fn print_frames(buffer: &[u8], used: usize) {
     let mut number: u64 = 0;
     let mut refused: u64 = 0;
-    while number < 65536 {
+    while number < sizes::BUFFER_MOST as u64 {
         let refusal = walk_refusal(buffer, used, number);
-        if refusal == 24 {
+        if refusal == refusals::NO_SUCH_FRAME {
             print_completed_frames(number, refused);
             return;
         }

@@ -1,8 +1,8 @@
 // What came of a run, printed.
-use answers::outcome::append_buffer;
-use answers::outcome::append_change;
-use answers::outcome::append_outcome;
-use output::print;
+use console_output::print;
+use run_lines::append_buffer;
+use run_lines::append_change;
+use run_lines::append_outcome;
 use runner::Outcome;
 
 pub fn print_outcome(code: &[u8], outcome: Outcome) {
@@ -17,9 +17,9 @@ fn print_change(number: usize, before: u64, after: u64) {
     print(&line[..n]);
 }
 
-pub fn print_changes(before: &[u64; 64], after: &[u64; 64]) {
+pub fn print_changes(before: &[u64; sizes::VARIABLE_COUNT], after: &[u64; sizes::VARIABLE_COUNT]) {
     let mut i = 0;
-    while i < 64 {
+    while i < sizes::VARIABLE_COUNT {
         if before[i] != after[i] {
             print_change(i, before[i], after[i]);
         }

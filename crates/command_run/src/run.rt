@@ -3,19 +3,19 @@ use crate::outcome::print_buffer;
 use crate::outcome::print_changes;
 use crate::outcome::print_outcome;
 use command_frames::show::print_frame;
+use console_output::print_error;
+use console_output::print_error_at;
+use console_output::print_error_of;
+use console_output::refuse_option;
 use files::Loaded;
 use files::load;
 use files::mebibyte_buffer;
 use files::save;
-use output::print_error;
-use output::print_error_at;
-use output::print_error_of;
-use output::refuse_option;
-use report::hex::Decoded;
+use hexadecimal::HexAnswer;
 use runner::Outcome;
-use scenario::Fault;
 use scenario::IMAGE;
 use scenario::Item;
+use scenario::ItemFault;
 use scenario::LOAD;
 use scenario::MEMORY;
 use scenario::SAVE;
@@ -42,13 +42,13 @@ fn print_wrong(name: &[u8], number: u64, column: usize, why: &[u8]) {
     print_error_at(name, number, wrapping_add_u64(column as u64, 1), why);
 }
 
-fn print_fault(name: &[u8], number: u64, fault: Fault, column: usize) {
+fn print_fault(name: &[u8], number: u64, fault: ItemFault, column: usize) {
     match fault {
-        Fault::UnknownWord => print_wrong(name, number, column, b"unknown word"),
-        Fault::MissingWord => print_wrong(name, number, column, b"a word is missing"),
-        Fault::NotNumber => print_wrong(name, number, column, b"not a number"),
-        Fault::TooLarge => print_wrong(name, number, column, b"the number is too large"),
-        Fault::LeftOver => print_wrong(name, number, column, b"something is left over"),
+        ItemFault::UnknownWord => print_wrong(name, number, column, b"unknown word"),
+        ItemFault::MissingWord => print_wrong(name, number, column, b"a word is missing"),
+        ItemFault::NotNumber => print_wrong(name, number, column, b"not a number"),
+        ItemFault::TooLarge => print_wrong(name, number, column, b"the number is too large"),
+        ItemFault::LeftOver => print_wrong(name, number, column, b"something is left over"),
     }
 }
 
@@ -72,21 +72,21 @@ fn take_hex(
     end: usize,
     bytes: &mut [u8],
 ) -> Got {
-    match report::hex::decode(part(line, start, end), bytes) {
-        Decoded::Bytes(n) => return Got::Bytes(n),
-        Decoded::NotHex(position) => print_error_at(
+    match hexadecimal::decode(part(line, start, end), bytes) {
+        HexAnswer::Bytes(n) => return Got::Bytes(n),
+        HexAnswer::NotHex(position) => print_error_at(
             name,
             number,
             wrapping_add_u64(wrapping_add_u64(start as u64, position as u64), 1),
             b"not hexadecimal: write two digits, 0-9 or a-f, for each byte",
         ),
-        Decoded::Odd => print_error_at(
+        HexAnswer::Odd => print_error_at(
             name,
             number,
             end as u64,
             b"a digit is left over: write two digits for each byte",
         ),
-        Decoded::TooLong => print_wrong(name, number, start, b"more than 65536 bytes"),
+        HexAnswer::TooLong => print_wrong(name, number, start, b"more than 65536 bytes"),
     }
     Got::Wrong
 }
@@ -127,7 +127,7 @@ fn run_code<'a>(
     registers: &[u64],
     image: &'a [u8],
     memory: &'a [u8],
-    variables: &mut [u64; 64],
+    variables: &mut [u64; sizes::VARIABLE_COUNT],
     buffer: &mut [u8],
 ) -> Setting {
     let before = *variables;
@@ -140,7 +140,7 @@ fn run_code<'a>(
             print_buffer(used, buffer.len());
             with_used(setting, used)
         }
-        Outcome::Refused(number, offset, steps) => {
+        Outcome::Refused(_) => {
             print_buffer(setting.buffer.used, buffer.len());
             setting
         }
@@ -158,7 +158,7 @@ fn run_line<'a>(
     registers: &[u64],
     image: &'a [u8],
     memory: &'a [u8],
-    variables: &mut [u64; 64],
+    variables: &mut [u64; sizes::VARIABLE_COUNT],
     buffer: &mut [u8],
 ) -> Setting {
     let mut code = io::large_buffer();
@@ -190,7 +190,7 @@ fn take_inline(
     registers: &[u64],
     image: &mut [u8],
     memory: &mut [u8],
-    variables: &mut [u64; 64],
+    variables: &mut [u64; sizes::VARIABLE_COUNT],
     buffer: &mut [u8],
 ) -> Setting {
     let Item::Bytes(keyword, first, start, end) = item else {
@@ -294,7 +294,7 @@ fn take_item(
     registers: &mut [u64],
     image: &mut [u8],
     memory: &mut [u8],
-    variables: &mut [u64; 64],
+    variables: &mut [u64; sizes::VARIABLE_COUNT],
     buffer: &mut [u8],
 ) -> Setting {
     let item = scenario::read_line(line);
@@ -344,7 +344,7 @@ fn take_line(
     registers: &mut [u64],
     image: &mut [u8],
     memory: &mut [u8],
-    variables: &mut [u64; 64],
+    variables: &mut [u64; sizes::VARIABLE_COUNT],
     buffer: &mut [u8],
 ) -> Setting {
     if text.len() < len {
@@ -371,7 +371,7 @@ fn run_lines(fd: i32, name: &[u8]) {
     let mut registers = [0u64; 257];
     let mut image = mebibyte_buffer();
     let mut memory = mebibyte_buffer();
-    let mut variables = [0u64; 64];
+    let mut variables = [0u64; sizes::VARIABLE_COUNT];
     let mut buffer = io::large_buffer();
     let mut setting = start();
     let mut line = lines::start_of(fd);

@@ -1,13 +1,13 @@
 // A listing as GDB's `maint agent` and `maint agent-eval` print it, from standard input, turned into bytes.
 use crate::answer::answer;
+use console_output::print;
+use console_output::print_error;
+use console_output::print_error_at;
 use files::Loaded;
 use libc::STDIN_FILENO;
-use listing::reading::Fault;
-use listing::whole::Whole;
+use listing::reading::LineFault;
+use listing::whole::ListingRead;
 use listing::whole::read_listing;
-use output::print;
-use output::print_error;
-use output::print_error_at;
 use std::num::wrapping_add_u64;
 
 // Where the line or the column is 0 it is left out.
@@ -15,26 +15,30 @@ fn print_wrong(line: u64, column: u64, why: &[u8]) {
     print_error_at(b"standard input", line, column, why);
 }
 
-fn print_fault(fault: Fault, line: u64, column: u64) {
+fn print_fault(fault: LineFault, line: u64, column: u64) {
     match fault {
-        Fault::WrongOffset => print_wrong(
+        LineFault::WrongOffset => print_wrong(
             line,
             column,
             b"this is not the offset of the next instruction",
         ),
-        Fault::NoName => print_wrong(line, column, b"the name of an instruction is missing"),
-        Fault::UnknownName => print_wrong(line, column, b"no supported instruction has this name"),
-        Fault::NoOperand => print_wrong(line, column, b"the operand is missing"),
-        Fault::NotNumber => print_wrong(line, column, b"the operand is not a decimal number"),
-        Fault::TooLarge => print_wrong(line, column, b"the operand is too large"),
-        Fault::Trailing => print_wrong(line, column, b"something follows the instruction"),
+        LineFault::NoName => print_wrong(line, column, b"the name of an instruction is missing"),
+        LineFault::UnknownName => print_wrong(
+            line,
+            column,
+            b"no supported instruction has this name",
+        ),
+        LineFault::NoOperand => print_wrong(line, column, b"the operand is missing"),
+        LineFault::NotNumber => print_wrong(line, column, b"the operand is not a decimal number"),
+        LineFault::TooLarge => print_wrong(line, column, b"the operand is too large"),
+        LineFault::Trailing => print_wrong(line, column, b"something follows the instruction"),
     }
 }
 
-// The buffer has room for the lines of 65,536 bytes (`bytes-length`, on the page of `answers`).
+// The buffer has room for the lines of 65,536 bytes (`bytes-length`, on the page of `verify_lines`).
 fn print_bytes(code: &[u8]) {
     let mut text = files::mebibyte_buffer();
-    let n = answers::bytes::append_bytes(&mut text, 0, code);
+    let n = verify_lines::bytes::append_bytes(&mut text, 0, code);
     print(&text[..n]);
 }
 
@@ -46,9 +50,9 @@ fn print_answer(code: &[u8], is_listed: bool) {
 fn read_text(text: &[u8], is_listed: bool) {
     let mut bytes = io::large_buffer();
     match read_listing(text, &mut bytes) {
-        Whole::Bytes(n) => print_answer(&bytes[0..n], is_listed),
-        Whole::NoRoom(line) => print_wrong(line as u64, 0, b"more than 65536 bytes"),
-        Whole::Wrong(line, fault, column) => {
+        ListingRead::Bytes(n) => print_answer(&bytes[0..n], is_listed),
+        ListingRead::NoRoom(line) => print_wrong(line as u64, 0, b"more than 65536 bytes"),
+        ListingRead::Wrong(line, fault, column) => {
             print_fault(fault, line as u64, wrapping_add_u64(column as u64, 1));
         }
     }

@@ -1,10 +1,10 @@
 // The command `verify`: expressions in hexadecimal, or as GDB lists them.
 use crate::answer::answer;
 use crate::from_gdb;
-use output::print_error;
-use output::print_error_at;
-use output::print_error_of;
-use report::hex::Decoded;
+use console_output::print_error;
+use console_output::print_error_at;
+use console_output::print_error_of;
+use hexadecimal::HexAnswer;
 use std::num::wrapping_add_u64;
 
 // Line 0 is the command line.
@@ -16,25 +16,26 @@ fn print_wrong(line: u64, column: u64, why: &[u8]) {
     print_error_at(b"standard input", line, column, why);
 }
 
-// Answers a text; false where it is not hexadecimal. Its bytes fit, since it has at most 65,536 characters: the verifier gets all of them.
+// Answers a text; false where it is not hexadecimal. Its bytes fit, since it has at most 65,536 characters: the
+// verifier gets all of them.
 fn verify_text(text: &[u8], line: u64, is_listed: bool) -> bool {
     let mut bytes = [0u8; 32768];
-    match report::hex::decode(text, &mut bytes) {
-        Decoded::Bytes(n) => {
+    match hexadecimal::decode(text, &mut bytes) {
+        HexAnswer::Bytes(n) => {
             answer(&bytes[0..n], is_listed);
             return true;
         }
-        Decoded::NotHex(position) => print_wrong(
+        HexAnswer::NotHex(position) => print_wrong(
             line,
             wrapping_add_u64(position as u64, 1),
             b"not hexadecimal: write two digits, 0-9 or a-f, for each byte",
         ),
-        Decoded::Odd => print_wrong(
+        HexAnswer::Odd => print_wrong(
             line,
             text.len() as u64,
             b"a digit is left over: write two digits for each byte",
         ),
-        Decoded::TooLong => print_wrong(line, 0, b"more than 32768 bytes"),
+        HexAnswer::TooLong => print_wrong(line, 0, b"more than 32768 bytes"),
     }
     false
 }
@@ -48,7 +49,8 @@ fn verify_line(text: &[u8], len: usize, line: u64, is_listed: bool) -> bool {
     verify_text(&text[0..len], line, is_listed)
 }
 
-// Expressions from standard input, one a line, up to the first line that is none. The number of a line also bounds the loop, for its proof.
+// Expressions from standard input, one a line, up to the first line that is none. The number of a line also bounds the
+// loop, for its proof.
 fn verify_lines(is_listed: bool) {
     let mut input = io::large_buffer();
     let mut text = io::large_buffer();

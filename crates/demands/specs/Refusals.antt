@@ -5,16 +5,19 @@ use mathlib.Core.List.{List, [], _∷_, map}
 use mathlib.Core.Path.{_≡_}
 use Prim.Native.Nat.{ℕ, _^_}
 use lib.ListN.{length}
-use lib.Dec.{T, eqb, ltb}
+use lib.Dec.{T, eqb, leb, ltb}
+use Rattle.logic.specs.Tests.{member}
 use Rattle.memory.specs.Fetch.{fetchRefusal}
-use Rattle.machine.specs.Fed.{Fed}
+use Rattle.sizes.specs.Sizes.{variable-count, tracepoint-most}
+use Rattle.memory.specs.Spans.{Target}
+use Rattle.machine.specs.Given.{Given, given}
 use Rattle.machine.specs.Run.{ended, defaultAllowance}
 use Rattle.machine.specs.Run as machine
 use Rattle.verdict.specs.Verdict.{verdict}
 use Rattle.reader.specs.Located.{located, walked}
 use Rattle.reader.specs.Read.{reading, counting}
-use Rattle.lilivrez_verifier.specs.Told as verifier
-use Rattle.lilivrez_agent.specs.Frames.{among, readNumber, countNumber, placeNumber}
+use Rattle.lilivrez_verifier.specs.VerdictNumbers as verifier
+use Rattle.lilivrez_frames.specs.FrameValues.{readNumber, countNumber, locateNumber}
 
 pub data Entry : Type 0 where
   verify : Entry
@@ -26,8 +29,8 @@ pub data Entry : Type 0 where
   locate : Entry
   walk : Entry
 
-unfoldable pub table : List (ℕ × List Entry)
-table =
+unfoldable pub refusalTable : List (ℕ × List Entry)
+refusalTable =
     -- "0 bytes, or more than 1,024"
     (1, verify ∷ run ∷ run-default ∷ [])
     -- "opcode unknown; unsupported"
@@ -72,50 +75,57 @@ place walk = 7
 
 abbrev pub numbersIn : Entry → List (ℕ × List Entry) → List ℕ
 numbersIn x [] = []
-numbersIn x (row ∷ rows) = cond (among (map place (row .1)) (place x)) (row .0 ∷ numbersIn x rows) (numbersIn x rows)
+numbersIn x (row ∷ rows) = cond (member (place x) (map place (row .1))) (row .0 ∷ numbersIn x rows) (numbersIn x rows)
 
 abbrev pub numbersOf : Entry → List ℕ
-numbersOf x = numbersIn x table
+numbersOf x = numbersIn x refusalTable
 
 -- ---- what an entry answers
--- what decides its refusal: an expression; spans, an address and a size; what a run is given, but for the tracepoint
--- number, which decides nothing; a buffer, its used length or the walker's place, a frame's number and a record's
+-- what decides its refusal: an expression; spans, an address and a size; what a run is given; a buffer, its used length
+-- or the walker's place, a frame's number and a record's
 abbrev pub Inputs : Entry → Type 0
 Inputs verify = List ℕ
-Inputs fetch = ℕ × List ℕ × ℕ × List ℕ × ℕ × ℕ
-Inputs run = Fed × List ℕ × List ℕ × ℕ × ℕ
-Inputs run-default = Fed × List ℕ × List ℕ × ℕ
+Inputs fetch = Target × ℕ × ℕ
+Inputs run = Given
+Inputs run-default = Given
 Inputs read = List ℕ × ℕ × ℕ × ℕ
 Inputs count = List ℕ × ℕ × ℕ
 Inputs locate = List ℕ × ℕ × ℕ
 Inputs walk = List ℕ × ℕ
 
+-- "An entry without an allowance uses 1,024", whatever allowance stands in g
+abbrev pub byDefault : Given → Given
+byDefault g = given (g .expression) (g .registers) (g .variables) (g .target) (g .tracepoint) (g .buffer) (g .used) defaultAllowance
+
 -- the number of the refusal that it gives, or 0 where it gives none
 abbrev pub number : (x : Entry) → Inputs x → ℕ
-number verify e = verifier.numberOf (verdict e)
-number fetch i = fetchRefusal (i .0) (i .1) (i .2) (i .3) (i .4) (i .5)
-number run i = machine.numberOf (ended (i .0) (i .1) (i .2) (i .3) (i .4))
-number run-default i = machine.numberOf (ended (i .0) (i .1) (i .2) (i .3) defaultAllowance)
+number verify e = verifier.verdictNumber (verdict e)
+number fetch i = fetchRefusal (i .0) (i .1) (i .2)
+number run g = machine.numberOf (ended g)
+number run-default g = machine.numberOf (ended (byDefault g))
 number read i = readNumber (reading (i .0) (i .1) (i .2) (i .3))
 number count i = countNumber (counting (i .0) (i .1) (i .2))
-number locate i = placeNumber (located (i .0) (i .1) (i .2))
-number walk i = placeNumber (walked (i .0) (i .1))
+number locate i = locateNumber (located (i .0) (i .1) (i .2))
+number walk i = locateNumber (walked (i .0) (i .1))
 
 -- the inputs are what their types say: bytes below 256, numbers below 2^64, 64 variables
 abbrev allBelow : ℕ → List ℕ → Bool
 allBelow b [] = true
 allBelow b (x ∷ xs) = ltb x b && allBelow b xs
 
-abbrev typedRun : Fed → List ℕ → List ℕ → Bool
-typedRun m v b =
-    allBelow 256 (m .expression) && allBelow (2 ^ 64) (m .registers) && allBelow 256 (m .image) && allBelow 256 (m .work)
-    && allBelow (2 ^ 64) (m .image-first ∷ m .work-first ∷ []) && allBelow (2 ^ 64) v && eqb (length v) 64 && allBelow 256 b
+abbrev typedTarget : Target → Bool
+typedTarget t = allBelow (2 ^ 64) (t .image .first ∷ t .work .first ∷ []) && allBelow 256 (t .image .bytes) && allBelow 256 (t .work .bytes)
+
+abbrev typedRun : Given → Bool
+typedRun g =
+    allBelow 256 (g .expression) && allBelow (2 ^ 64) (g .registers) && allBelow (2 ^ 64) (g .variables) && eqb (length (g .variables)) variable-count
+    && typedTarget (g .target) && leb (g .tracepoint) tracepoint-most && allBelow 256 (g .buffer) && allBelow (2 ^ 64) (g .used ∷ g .allowance ∷ [])
 
 abbrev pub typed : (x : Entry) → Inputs x → Bool
 typed verify e = allBelow 256 e
-typed fetch i = allBelow (2 ^ 64) (i .0 ∷ i .2 ∷ i .4 ∷ i .5 ∷ []) && allBelow 256 (i .1) && allBelow 256 (i .3)
-typed run i = typedRun (i .0) (i .1) (i .2) && allBelow (2 ^ 64) (i .3 ∷ i .4 ∷ [])
-typed run-default i = typedRun (i .0) (i .1) (i .2) && allBelow (2 ^ 64) (i .3 ∷ [])
+typed fetch i = typedTarget (i .0) && allBelow (2 ^ 64) (i .1 ∷ i .2 ∷ [])
+typed run g = typedRun g
+typed run-default g = typedRun g
 typed read i = allBelow 256 (i .0) && allBelow (2 ^ 64) (i .1 ∷ i .2 ∷ i .3 ∷ [])
 typed count i = allBelow 256 (i .0) && allBelow (2 ^ 64) (i .1 ∷ i .2 ∷ [])
 typed locate i = allBelow 256 (i .0) && allBelow (2 ^ 64) (i .1 ∷ i .2 ∷ [])

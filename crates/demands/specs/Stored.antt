@@ -6,7 +6,7 @@ use Rattle.runner.specs.Returned.{answerOf}
 use Rattle.runner.specs.declared.Value.{Value}
 use Rattle.runner.specs.declared.Outcome.{Outcome}
 use Rattle.runner.specs.declared.Outcome.the-variants.{Completed, Refused}
-use Rattle.lilivrez_agent.specs.Told.{cellsOf}
+use Rattle.lilivrez_agent.specs.RunValues.{cellValues}
 
 -- the steps and the used length, among what `lilivrez_run` stores
 abbrev pub stepsIn : List ℕ → ℕ
@@ -18,8 +18,8 @@ usedIn values = getD values 2 0
 -- what `run` answers, as the same numbers. A refusal holds no used length: its caller has the one that was given, u.
 abbrev pub numberTold : Outcome → ℕ
 numberTold (Completed a n w) = 0
-numberTold (Refused r k n) = r
+numberTold (Refused r) = r .number
 
 abbrev pub valuesTold : ℕ → Outcome → List ℕ
-valuesTold u (Completed a n w) = 0 ∷ n ∷ w ∷ cellsOf (answerOf a)
-valuesTold u (Refused r k n) = k ∷ n ∷ u ∷ 0 ∷ 0 ∷ 0 ∷ []
+valuesTold u (Completed a n w) = 0 ∷ n ∷ w ∷ cellValues (answerOf a)
+valuesTold u (Refused r) = r .offset ∷ r .steps ∷ u ∷ 0 ∷ 0 ∷ 0 ∷ []

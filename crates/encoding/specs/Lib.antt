@@ -1,5 +1,4 @@
 -- The definitions of `encoding`. What is proved of them: proofs/Promises.antt.
-pub mod Tried
 pub mod BigEndian
 pub mod LittleEndian
 pub mod Written

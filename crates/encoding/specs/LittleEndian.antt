@@ -1,4 +1,5 @@
--- Numbers in bytes, least significant byte first: the numbers of a frame, and what ref8 to ref64 read (document 01, "Frames" and "Meanings the manual leaves open").
+-- Numbers in bytes, least significant byte first: the numbers of a frame, and what ref8 to ref64 read (document 01,
+-- "Frames" and "Meanings the manual leaves open").
 use mathlib.Core.List.{List, [], _∷_}
 use Prim.Native.Nat.{ℕ, zero, suc, _+_, _*_, _/_, _%_}
 

@@ -2,7 +2,7 @@
 ghost use mathlib.Core.Path.{_≡_};
 ghost use Prim.Native.Nat.{_+_, _<_, _≤_, _^_};
 ghost use lib.ListN.{length, take, drop};
-ghost use Rattle.encoding.specs.BigEndian.{bigEndian};
+ghost use Rattle.encoding.specs.BigEndian.{bigEndian, bigBytes};
 ghost use Rattle.encoding.specs.LittleEndian.{littleEndian, littleBytes};
 ghost use Rattle.encoding.specs.Written.{writtenAt};
 ghost use Rattle.encoding.specs.Ranges.{AllBytes, AllWords};
@@ -77,6 +77,20 @@ pub fn put_little(out: &mut [u8], at: usize, value: u64, count: usize)
         out[at + put] = (rest % 256) as u8;
         rest = rest / 256;
         put += 1;
+    }
+}
+
+// Writes the `count` bytes of `value` from `at` on, most significant byte first.
+pub fn put_big(out: &mut [u8], at: usize, value: u64, count: usize)
+    requires { ⌜ at + count ≤ length (now out) ⌝ }
+    ensures { λ _. ⌜ now (out .exit) ≡ writtenAt (now (out .entry)) at (bigBytes count value) ⌝ }
+{
+    let mut rest = value;
+    let mut left = count;
+    while 0 < left {
+        left -= 1;
+        out[at + left] = (rest % 256) as u8;
+        rest = rest / 256;
     }
 }
 

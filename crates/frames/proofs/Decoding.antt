@@ -10,7 +10,8 @@ use lib.Dec.{T, leb, ltb, eqb, leb→le, ltb→lt, eqb→eq}
 use borrow.Author.Tests.{le-leb, lt-ltb}
 use Rattle.encoding.specs.LittleEndian.{littleBytes}
 use Rattle.encoding.specs.Ranges.{AllBytes}
-use Rattle.encoding.proofs.Promises.{and-left, and-right, below-take, below-drop, little-of-bytes, little-below, bytes-of-little}
+use Rattle.logic.proofs.Promises.{and-left, and-right}
+use Rattle.encoding.proofs.Promises.{below-take, below-drop, little-of-bytes, little-below, bytes-of-little}
 use Rattle.frames.specs.Record.{Record, memory, variable, encode, size, WellFormed, Decoded, found, broken, field, has, decodeMemory, decodeVariable, decode}
 
 pub size-encode : (r : Record) → length (encode r) ≡ size r

@@ -7,14 +7,15 @@ use native.Mathlib.Omega.{arith}
 use lib.ListN.{length, drop, length-append, length-drop, drop-of-length-le}
 use lib.Seq.{drop-at}
 use Rattle.encoding.specs.Ranges.{AllBytes}
-use Rattle.encoding.proofs.Promises.{cases, below-drop}
+use Rattle.logic.proofs.Promises.{cases}
+use Rattle.encoding.proofs.Promises.{below-drop}
 use Rattle.frames.specs.Record.{Record, encode, encodeAll, size, AllWellFormed, Decoded, found, broken, decode}
-use Rattle.frames.specs.Division.{Division, records, brokenAt, after, afterAll, onward, divideAtMost, divide}
+use Rattle.frames.specs.Division.{Division, records, brokenAt, after, afterAll, divideOn, divideAtMost, divide}
 use Rattle.frames.proofs.Decoding.{size-encode, decode-encode, InFront, in-front, found-fits, encode-decode}
 
 -- ---- any number of records that is enough gives the same
 onward-same : (f g : List ℕ → Division) (l : List ℕ) (d : Decoded) → InFront l d
-    → ((n : ℕ) → 1 ≤ n → n ≤ length l → f (drop n l) ≡ g (drop n l)) → onward f l d ≡ onward g l d
+    → ((n : ℕ) → 1 ≤ n → n ≤ length l → f (drop n l) ≡ g (drop n l)) → divideOn f l d ≡ divideOn g l d
 onward-same f g l (found r) h e = ap (after r) (e (size r) (h .0) (h .1))
 onward-same f g l broken h e = refl
 
@@ -35,7 +36,7 @@ pub divide-nothing : divide [] ≡ records []
 unfolding divideAtMost divide
 divide-nothing = refl
 
-first-step : (l : List ℕ) → 0 < length l → divide l ≡ onward divide l (decode l)
+first-step : (l : List ℕ) → 0 < length l → divide l ≡ divideOn divide l (decode l)
 unfolding divideAtMost divide
 first-step [] h = absurd (not-suc-le-zero h)
 first-step (b ∷ l) h =
@@ -43,10 +44,10 @@ first-step (b ∷ l) h =
     (λ i p q. same-division (length l) (length (drop i (b ∷ l))) (drop i (b ∷ l)) (omega (arith, length-drop i (b ∷ l))) (omega arith))
 
 pub divide-found : (l : List ℕ) {r : Record} → decode l ≡ found r → divide l ≡ after r (divide (drop (size r) l))
-divide-found l e = first-step l (omega (arith, found-fits l e)) ∙ ap (onward divide l) e
+divide-found l e = first-step l (omega (arith, found-fits l e)) ∙ ap (divideOn divide l) e
 
 pub divide-broken : (l : List ℕ) → 0 < length l → decode l ≡ broken → divide l ≡ brokenAt 0
-divide-broken l h e = first-step l h ∙ ap (onward divide l) e
+divide-broken l h e = first-step l h ∙ ap (divideOn divide l) e
 
 -- ---- records, and what follows them
 pub after-all-nothing : (rs : List Record) → afterAll rs (records []) ≡ records rs
@@ -96,7 +97,7 @@ Encoded l rs = AllWellFormed rs × (l ≡ encodeAll rs)
 
 module _ (l : List ℕ) (bytes : AllBytes l) (f : List ℕ → Division)
     (again : (r : Record) → 1 ≤ size r → (ts : List Record) → f (drop (size r) l) ≡ records ts → Encoded (drop (size r) l) ts) where
-  onward-again : (d : Decoded) → decode l ≡ d → (rs : List Record) → onward f l d ≡ records rs → Encoded l rs
+  onward-again : (d : Decoded) → decode l ≡ d → (rs : List Record) → divideOn f l d ≡ records rs → Encoded l rs
   unfolding encodeAll
   onward-again (found r) e rs p =
       split r (f (drop (size r) l)) rs p λ ts q s.
@@ -143,32 +144,37 @@ module _ (l : List ℕ) (r : Record) (ts : List Record) (e : divide l ≡ record
   pub divided-first : First
   divided-first = first-by (decode l) refl divided-some
 
--- ---- a broken record lies within the bytes
-Within : ℕ → Division → Type 0
-Within n (records rs) = Unit {0}
-Within n (brokenAt i) = i < n
+-- ---- the records take all the bytes, or a broken one lies within them
+Covers : ℕ → Division → Type 0
+Covers n (records rs) = n ≡ length (encodeAll rs)
+Covers n (brokenAt i) = i < n
 
-after-within : (r : Record) (d : Division) (m n : ℕ) → size r + m ≤ n → Within m d → Within n (after r d)
-unfolding Within
-after-within r (records rs) m n h w = tt
-after-within r (brokenAt i) m n h w = omega (arith, w)
+after-covers : (r : Record) (d : Division) (m n : ℕ) → n ≡ size r + m → Covers m d → Covers n (after r d)
+unfolding Covers encodeAll
+after-covers r (records rs) m n h w = h ∙ rw (length-append (encode r) (encodeAll rs), size-encode r, ← w)
+after-covers r (brokenAt i) m n h w = omega (arith, w)
 
-onward-within : (f : List ℕ → Division) (l : List ℕ) (d : Decoded) → 0 < length l → InFront l d
-    → ((i : ℕ) → 1 ≤ i → i ≤ length l → Within (length (drop i l)) (f (drop i l))) → Within (length l) (onward f l d)
-unfolding Within
-onward-within f l (found r) s h g =
-    after-within r (f (drop (size r) l)) (length (drop (size r) l)) (length l) (omega (arith, h, length-drop (size r) l)) (g (size r) (h .0) (h .1))
-onward-within f l broken s h g = s
+onward-covers : (f : List ℕ → Division) (l : List ℕ) (d : Decoded) → 0 < length l → InFront l d
+    → ((i : ℕ) → 1 ≤ i → i ≤ length l → Covers (length (drop i l)) (f (drop i l))) → Covers (length l) (divideOn f l d)
+unfolding Covers
+onward-covers f l (found r) s h g =
+    after-covers r (f (drop (size r) l)) (length (drop (size r) l)) (length l) (omega (arith, h, length-drop (size r) l)) (g (size r) (h .0) (h .1))
+onward-covers f l broken s h g = s
 
-within-by : (n : ℕ) (l : List ℕ) → length l ≤ n → Within (length l) (divideAtMost n l)
-unfolding Within divideAtMost
-within-by zero [] h = tt
-within-by zero (b ∷ l) h = absurd (not-suc-le-zero h)
-within-by (suc n) [] h = tt
-within-by (suc n) (b ∷ l) h =
-    onward-within (λ t. divideAtMost n t) (b ∷ l) (decode (b ∷ l)) (omega arith) (in-front (b ∷ l))
-    (λ i p q. within-by n (drop i (b ∷ l)) (omega (arith, length-drop i (b ∷ l))))
+covers-by : (n : ℕ) (l : List ℕ) → length l ≤ n → Covers (length l) (divideAtMost n l)
+unfolding Covers divideAtMost encodeAll
+covers-by zero [] h = refl
+covers-by zero (b ∷ l) h = absurd (not-suc-le-zero h)
+covers-by (suc n) [] h = refl
+covers-by (suc n) (b ∷ l) h =
+    onward-covers (λ t. divideAtMost n t) (b ∷ l) (decode (b ∷ l)) (omega arith) (in-front (b ∷ l))
+    (λ i p q. covers-by n (drop i (b ∷ l)) (omega (arith, length-drop i (b ∷ l))))
 
-pub broken-inside : (l : List ℕ) {i : ℕ} → divide l ≡ brokenAt i → i < length l
-unfolding Within divide
-broken-inside l e = rw e at (within-by (length l) l (omega arith))
+module _ (l : List ℕ) where
+  pub broken-inside : {i : ℕ} → divide l ≡ brokenAt i → i < length l
+  unfolding Covers divide
+  broken-inside e = rw e at (covers-by (length l) l (omega arith))
+
+  pub divided-length : {rs : List Record} → divide l ≡ records rs → length l ≡ length (encodeAll rs)
+  unfolding Covers divide
+  divided-length e = rw e at (covers-by (length l) l (omega arith))

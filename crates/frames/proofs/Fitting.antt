@@ -9,13 +9,16 @@ use lib.Dec.{leb}
 use borrow.Author.Tests.{le-leb, lt-leb, leb-true, leb-false}
 use Rattle.encoding.specs.LittleEndian.{littleBytes}
 use Rattle.encoding.specs.Written.{writtenAt}
-use Rattle.encoding.proofs.Promises.{cases, written-store, written-more, part-length, part-written, part-same}
+use Rattle.logic.proofs.Promises.{cases}
+use Rattle.encoding.proofs.Promises.{written-store, written-more, part-length, part-written, part-same}
 use Rattle.frames.specs.Record.{Record, memory, variable, encode, encodeAll, WellFormed}
 use Rattle.frames.specs.Trailer.{encodeTrailer}
+use Rattle.frames.specs.declared.Tag.{Tag}
 use Rattle.frames.specs.Frame.{encodeFrame}
-use Rattle.frames.specs.Writing.{written, encodable, Leaves, Whole}
-use Rattle.frames.specs.declared.Written.{Written}
-use Rattle.frames.specs.declared.Written.the-variants.{Bytes, Full}
+use Rattle.frames.specs.Writing.{written, encodable}
+use Rattle.frames.specs.joining.Answers.{Leaves, PutWhole}
+use Rattle.frames.specs.declared.Put.{Put}
+use Rattle.frames.specs.declared.Put.the-variants.{Bytes, Full}
 use Rattle.frames.proofs.Dividing.{encode-all-more}
 
 -- ---- the cases of a writer's code
@@ -40,11 +43,11 @@ both : (a b : Bool) → a && b ≡ true → b ≡ true
 both true b h = h
 both false b h = let z : _≡_ {A = ℕ} 0 1 = cc in absurd (omega arith)
 
-abbrev chosen : Bool → List ℕ → ℕ → List ℕ → Written × List ℕ
+abbrev chosen : Bool → List ℕ → ℕ → List ℕ → Put × List ℕ
 chosen t l u e = cond t (Bytes (length e), writtenAt l u e) (Full, l)
 
 module _ (b : Bool) (l : List ℕ) (u : ℕ) (e : List ℕ) where
-  whole-by : (t : Bool) → b && leb (u + length e) (length l) ≡ t → {r : Written} {m : List ℕ} → Leaves (chosen t l u e) r m → {n : ℕ} → r ≡ Bytes n → Whole l u e n m
+  whole-by : (t : Bool) → b && leb (u + length e) (length l) ≡ t → {r : Put} {m : List ℕ} → Leaves (chosen t l u e) r m → {n : ℕ} → r ≡ Bytes n → PutWhole l u e n m
   whole-by true h w c = record {
     fits = leb-true (u + length e) (length l) (both b (leb (u + length e) (length l)) h);
     count = let q = w .answer in cc;
@@ -52,15 +55,15 @@ module _ (b : Bool) (l : List ℕ) (u : ℕ) (e : List ℕ) where
   }
   whole-by false h w c = let q = w .answer in let z : _≡_ {A = ℕ} 0 1 = cc in absurd (omega arith)
 
-  pub wrote : {r : Written} {m : List ℕ} → Leaves (written b l u e) r m → {n : ℕ} → r ≡ Bytes n → Whole l u e n m
+  pub wrote : {r : Put} {m : List ℕ} → Leaves (written b l u e) r m → {n : ℕ} → r ≡ Bytes n → PutWhole l u e n m
   unfolding written
   wrote w c = whole-by (b && leb (u + length e) (length l)) refl w c
 
-  full-by : (t : Bool) → b && leb (u + length e) (length l) ≡ t → {r : Written} {m : List ℕ} → Leaves (chosen t l u e) r m → r ≡ Full → (b ≡ true → length l < u + length e) × (m ≡ l)
+  full-by : (t : Bool) → b && leb (u + length e) (length l) ≡ t → {r : Put} {m : List ℕ} → Leaves (chosen t l u e) r m → r ≡ Full → (b ≡ true → length l < u + length e) × (m ≡ l)
   full-by true h w c = let q = w .answer in let z : _≡_ {A = ℕ} 0 1 = cc in absurd (omega arith)
   full-by false h w c = (λ f. leb-false (u + length e) (length l) (rw f at h), w .bytes)
 
-  pub full : {r : Written} {m : List ℕ} → Leaves (written b l u e) r m → r ≡ Full → (b ≡ true → length l < u + length e) × (m ≡ l)
+  pub full : {r : Put} {m : List ℕ} → Leaves (written b l u e) r m → r ≡ Full → (b ≡ true → length l < u + length e) × (m ≡ l)
   unfolding written
   full w c = full-by (b && leb (u + length e) (length l)) refl w c
 
@@ -73,12 +76,12 @@ module _ (b : Bool) (l : List ℕ) (u : ℕ) (e : List ℕ) (h : u ≤ length l)
       cases (length l) (u + length e) (λ k. lt-leb (0 + length e) n (omega arith) ∙ sym (lt-leb (u + length e) (length l) k))
       (λ k. le-leb (0 + length e) n (omega arith) ∙ sym (le-leb (u + length e) (length l) k))
 
-  lent-by : (t : Bool) {r : Written} {p : List ℕ} → Leaves (chosen t (take (length l - u) (drop u l)) 0 e) r p
+  lent-by : (t : Bool) {r : Put} {p : List ℕ} → Leaves (chosen t (take (length l - u) (drop u l)) 0 e) r p
       → Leaves (chosen t l u e) r (take u l ++ (p ++ drop (length l - u) (drop u l)))
   lent-by true w = record { answer = w .answer; bytes = rw (w .bytes) (part-written l u h e) }
   lent-by false w = record { answer = w .answer; bytes = rw (w .bytes) (part-same l u h) }
 
-  pub lent : {r : Written} {p : List ℕ} → Leaves (written b (take (length l - u) (drop u l)) 0 e) r p
+  pub lent : {r : Put} {p : List ℕ} → Leaves (written b (take (length l - u) (drop u l)) 0 e) r p
       → Leaves (written b l u e) r (take u l ++ (p ++ drop (length l - u) (drop u l)))
   unfolding written
   lent w = lent-by (b && leb (u + length e) (length l)) (rw same-test at w)
@@ -105,7 +108,7 @@ module _ (l : List ℕ) (u : ℕ) (rs : List Record) where
   pub record-behind : (r : Record) → writtenAt (writtenAt l u (encodeAll rs)) (u + length (encodeAll rs)) (encode r) ≡ writtenAt l u (encodeAll (rs ++ (r ∷ [])))
   record-behind r = written-more l u (encodeAll rs) (encode r) ∙ ap (λ e. writtenAt l u e) (sym (encode-all-more rs r))
 
-  pub trailer-behind : (t : ℕ)
+  pub trailer-behind : (t : Tag)
       → writtenAt (writtenAt l u (encodeAll rs)) (u + length (encodeAll rs)) (encodeTrailer t (length (encodeAll rs))) ≡ writtenAt l u (encodeFrame t rs)
   unfolding encodeFrame
   trailer-behind t = written-more l u (encodeAll rs) (encodeTrailer t (length (encodeAll rs)))

@@ -1,6 +1,6 @@
 -- What users of `frames` may cite, each law stated in full and proved where it is named. The contracts of src/ are the
 -- rest.
-use mathlib.Core.Bool.{Bool, true}
+use mathlib.Core.Bool.{Bool, true, false}
 use mathlib.Core.List.{List, [], _∷_, _++_}
 use mathlib.Core.Path.{_≡_, refl}
 use Prim.Native.Nat.{ℕ, _+_, _-_, _^_, _≤_, _<_}
@@ -8,15 +8,19 @@ use lib.ListN.{length, take, drop}
 use Rattle.encoding.specs.LittleEndian.{littleEndian, littleBytes}
 use Rattle.encoding.specs.Written.{writtenAt}
 use Rattle.encoding.specs.Ranges.{AllBytes}
+use Rattle.sizes.specs.Sizes.{buffer-most}
+use Rattle.frames.specs.Buffer.{unfit}
 use Rattle.frames.specs.Record.{Record, encode, encodeAll, size, WellFormed, AllWellFormed, Decoded, found, broken, decodeMemory, decodeVariable, decode}
 use Rattle.frames.specs.Division.{Division, records, brokenAt, after, afterAll, divideAtMost, divide}
-use Rattle.frames.specs.Trailer.{trailerSize, encodeTrailer, trailer, decodeTrailer}
+use Rattle.frames.specs.declared.Tag.{Tag}
+use Rattle.frames.specs.Trailer.{trailerSize, tagOf, TagFits, encodeTrailer, trailer, decodeTrailer}
 use Rattle.frames.specs.Frame.{encodeFrame}
-use Rattle.frames.specs.Reading.{sizeOf}
-use Rattle.frames.specs.Writing.{written, encodable, Leaves, Whole}
+use Rattle.frames.specs.joining.Answers.{sizeOf, Leaves, PutWhole}
+use Rattle.frames.specs.Writing.{written, encodable}
 use Rattle.frames.specs.Example.{exampleFrame, exampleRecords}
-use Rattle.frames.specs.declared.Written.{Written}
-use Rattle.frames.specs.declared.Written.the-variants.{Bytes, Full}
+use Rattle.frames.specs.declared.Put.{Put}
+use Rattle.frames.specs.declared.Put.the-variants.{Bytes, Full}
+use Rattle.frames.proofs.Buffer as buffer
 use Rattle.frames.proofs.Decoding as decoding
 use Rattle.frames.proofs.Dividing as dividing
 use Rattle.frames.proofs.Closing as closing
@@ -25,6 +29,14 @@ use Rattle.frames.proofs.Reading as reading
 
 -- The laws below that ask for bytes (`AllBytes`) hold of any slice that is lent: `lent-bytes` on the page of the
 -- demands.
+
+-- ---- a buffer that fits, and one that does not
+module _ (l : List ℕ) (u : ℕ) where
+  pub is-fit : length l ≤ buffer-most → u ≤ length l → unfit l u ≡ false
+  is-fit = buffer.is-fit l u
+
+  pub fit-lengths : unfit l u ≡ false → (length l ≤ buffer-most) × (u ≤ length l)
+  fit-lengths = buffer.fit-lengths l u
 
 -- ---- a record and its bytes
 -- 11 + the number of bytes, or 13
@@ -88,22 +100,29 @@ module _ (l : List ℕ) (r : Record) (ts : List Record) (e : divide l ≡ record
   pub divided-first : (decode l ≡ found r) × (divide (drop (size r) l) ≡ records ts)
   divided-first = dividing.divided-first l r ts e
 
+-- records take all the bytes that divide into them
+pub divided-length : (l : List ℕ) {rs : List Record} → divide l ≡ records rs → length l ≡ length (encodeAll rs)
+divided-length = dividing.divided-length
+
 -- a broken record lies within the bytes
 pub broken-inside : (l : List ℕ) {i : ℕ} → divide l ≡ brokenAt i → i < length l
 broken-inside = dividing.broken-inside
 
--- ---- the trailer: its length, and both ways between its numbers and its bytes
-pub trailer-length : (t n : ℕ) → length (encodeTrailer t n) ≡ trailerSize
+-- ---- the trailer: what it can hold, its length, and both ways between tag and length and its bytes
+pub tag-fits : {t : ℕ} → t < 2 ^ 16 → TagFits (tagOf t)
+tag-fits = closing.tag-fits
+
+pub trailer-length : (t : Tag) (n : ℕ) → length (encodeTrailer t n) ≡ trailerSize
 trailer-length = closing.trailer-length
 
 -- a frame is its records and the trailer
-pub frame-length : (t : ℕ) (rs : List Record) → length (encodeFrame t rs) ≡ length (encodeAll rs) + trailerSize
+pub frame-length : (t : Tag) (rs : List Record) → length (encodeFrame t rs) ≡ length (encodeAll rs) + trailerSize
 frame-length = closing.frame-length
 
-pub decode-trailer : (t n : ℕ) → t < 2 ^ 16 → n < 2 ^ 32 → decodeTrailer (encodeTrailer t n) ≡ trailer t n
+pub decode-trailer : (t : Tag) (n : ℕ) → TagFits t → n < 2 ^ 32 → decodeTrailer (encodeTrailer t n) ≡ trailer t n
 decode-trailer = closing.decode-trailer
 
-pub encode-trailer : (l : List ℕ) → AllBytes l → {t n : ℕ} → decodeTrailer l ≡ trailer t n → (t < 2 ^ 16) × (n < 2 ^ 32) × (l ≡ encodeTrailer t n)
+pub encode-trailer : (l : List ℕ) → AllBytes l → {t : Tag} {n : ℕ} → decodeTrailer l ≡ trailer t n → TagFits t × (n < 2 ^ 32) × (l ≡ encodeTrailer t n)
 encode-trailer = closing.encode-trailer
 
 -- ---- the writers
@@ -111,16 +130,16 @@ encode-trailer = closing.encode-trailer
 pub well-formed-encodable : (r : Record) → WellFormed r → encodable r ≡ true
 well-formed-encodable = fitting.well-formed-encodable
 
-module _ (b : Bool) (l : List ℕ) (u : ℕ) (e : List ℕ) {r : Written} {m : List ℕ} where
+module _ (b : Bool) (l : List ℕ) (u : ℕ) (e : List ℕ) {r : Put} {m : List ℕ} where
   -- what a writer's answer says
-  pub wrote : Leaves (written b l u e) r m → {n : ℕ} → r ≡ Bytes n → Whole l u e n m
+  pub wrote : Leaves (written b l u e) r m → {n : ℕ} → r ≡ Bytes n → PutWhole l u e n m
   wrote = fitting.wrote b l u e
 
   pub full : Leaves (written b l u e) r m → r ≡ Full → (b ≡ true → length l < u + length e) × (m ≡ l)
   full = fitting.full b l u e
 
 -- a writer that was lent the free part of a buffer has written into the buffer
-pub lent : (b : Bool) (l : List ℕ) (u : ℕ) (e : List ℕ) → u ≤ length l → {r : Written} {p : List ℕ} → Leaves (written b (take (length l - u) (drop u l)) 0 e) r p
+pub lent : (b : Bool) (l : List ℕ) (u : ℕ) (e : List ℕ) → u ≤ length l → {r : Put} {p : List ℕ} → Leaves (written b (take (length l - u) (drop u l)) 0 e) r p
     → Leaves (written b l u e) r (take u l ++ (p ++ drop (length l - u) (drop u l)))
 lent = fitting.lent
 
@@ -129,7 +148,7 @@ module _ (l : List ℕ) (u : ℕ) (rs : List Record) where
   pub record-behind : (r : Record) → writtenAt (writtenAt l u (encodeAll rs)) (u + length (encodeAll rs)) (encode r) ≡ writtenAt l u (encodeAll (rs ++ (r ∷ [])))
   record-behind = fitting.record-behind l u rs
 
-  pub trailer-behind : (t : ℕ)
+  pub trailer-behind : (t : Tag)
       → writtenAt (writtenAt l u (encodeAll rs)) (u + length (encodeAll rs)) (encodeTrailer t (length (encodeAll rs))) ≡ writtenAt l u (encodeFrame t rs)
   trailer-behind = fitting.trailer-behind l u rs
 
@@ -139,11 +158,11 @@ pub by-size : {X : Type 0} (d : Decoded) → (d ≡ broken → sizeOf d ≡ 0 �
 by-size = reading.by-size
 
 -- ---- document 01's frame, written and read
-pub example-written : encodeFrame 7 exampleRecords ≡ exampleFrame
+pub example-written : encodeFrame (tagOf 7) exampleRecords ≡ exampleFrame
 unfolding littleBytes encode encodeAll encodeTrailer encodeFrame exampleFrame exampleRecords
 example-written = refl
 
-pub example-closed : decodeTrailer (drop (length exampleFrame - trailerSize) exampleFrame) ≡ trailer 7 13
+pub example-closed : decodeTrailer (drop (length exampleFrame - trailerSize) exampleFrame) ≡ trailer (tagOf 7) 13
 unfolding littleEndian decodeTrailer exampleFrame
 example-closed = refl
 

@@ -1,4 +1,4 @@
--- What `record_size`, `read_record` and `read_trailer` answer, one law for each way out.
+-- What `record_size` and `read_record` answer, one law for each way out.
 use mathlib.Core.Bool.{Bool, true, false, _&&_}
 use mathlib.Core.List.{List, _∷_}
 use mathlib.Core.Logic.{_≢_}
@@ -10,16 +10,13 @@ use lib.Seq.{drop-cons}
 use lib.Dec.{T, leb, ltb, eqb, eqb→eq}
 use borrow.Author.Tests.{le-leb, lt-ltb}
 use Rattle.encoding.specs.LittleEndian.{littleEndian}
-use Rattle.encoding.proofs.Promises.{and-left, and-right}
 use Rattle.frames.specs.Record.{Record, Decoded, found, broken, field, has, decodeMemory, decodeVariable, decode, size}
-use Rattle.frames.specs.Trailer.{trailerSize, decodeTrailer}
-use Rattle.frames.specs.Reading.{sizeOf, Tells, endingOf}
-use Rattle.frames.specs.declared.Item.the-variants.{Memory, Variable}
-use Rattle.frames.specs.declared.Ending.the-variants.{Closes, NoTrailer}
+use Rattle.frames.specs.joining.Answers.{sizeOf, Tells}
+use Rattle.frames.specs.declared.RecordFields.the-variants.{Memory, Variable}
 use Rattle.frames.proofs.Decoding.{has-all, taken, memory-fits, variable-fits, FoundMemory, FoundVariable, by-decode}
 
 -- a test that does not hold
-fails : (t : Bool) → (T t → ⊥) → t ≡ false
+pub fails : (t : Bool) → (T t → ⊥) → t ≡ false
 fails true f = absurd (f tt)
 fails false f = refl
 
@@ -90,22 +87,6 @@ module _ (l : List ℕ) where
     tells-variable e =
         by-decode l (λ d. 0 < sizeOf d → Tells (Variable (getD l 1 0) (field l 5 8)) d)
         (λ m k. absurd (e (m .mark))) (λ v k. ap (λ n. Variable n (field l 5 8)) (low-number (omega (arith, v .fits)) (v .low))) (λ k. absurd (omega arith)) h
-
-  -- ---- the trailer
-  pub no-trailer : (length l ≡ trailerSize → getD l 0 0 ≡ 0x46 → getD l 1 0 ≡ 0x00 → ⊥) → NoTrailer ≡ endingOf (decodeTrailer l)
-  unfolding decodeTrailer
-  no-trailer f =
-      let a = eqb (length l) trailerSize in
-      let b = eqb (getD l 0 0) 0x46 in
-      let c = eqb (getD l 1 0) 0x00 in
-      rw (fails (a && b && c) λ t.
-      f (eqb→eq (length l) trailerSize (and-left a b (and-left (a && b) c t)))
-      (eqb→eq (getD l 0 0) 0x46 (and-right a b (and-left (a && b) c t)))
-      (eqb→eq (getD l 1 0) 0x00 (and-right (a && b) c t)))
-
-  pub a-trailer : length l ≡ trailerSize → getD l 0 0 ≡ 0x46 → getD l 1 0 ≡ 0x00 → Closes (field l 2 2) (field l 4 4) ≡ endingOf (decodeTrailer l)
-  unfolding decodeTrailer
-  a-trailer e m s = rw (e, m, s)
 
 -- a record is found, and the number is its size; or none is, and the number is 0
 pub by-size : {X : Type 0} (d : Decoded) → (d ≡ broken → sizeOf d ≡ 0 → X) → ((r : Record) → d ≡ found r → sizeOf d ≡ size r → X) → X

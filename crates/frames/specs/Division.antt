@@ -1,4 +1,5 @@
--- "Then the chosen frame must divide into records exactly, memory lengths 1 or more, variables below 64: else 23 at the first bad record" (document 01, "Frames").
+-- "Then the chosen frame must divide into records exactly, memory lengths 1 or more, variables below 64: else 23 at the
+-- first bad record" (document 01, "Frames").
 use mathlib.Core.List.{List, [], _∷_}
 use Prim.Native.Nat.{ℕ, zero, suc, _+_}
 use lib.ListN.{length, drop}
@@ -20,16 +21,16 @@ abbrev pub afterAll : List Record → Division → Division
 afterAll [] d = d
 afterAll (r ∷ rs) d = after r (afterAll rs d)
 
-abbrev pub onward : (List ℕ → Division) → List ℕ → Decoded → Division
-onward rest l (found r) = after r (rest (drop (size r) l))
-onward rest l broken = brokenAt 0
+abbrev pub divideOn : (List ℕ → Division) → List ℕ → Decoded → Division
+divideOn rest l (found r) = after r (rest (drop (size r) l))
+divideOn rest l broken = brokenAt 0
 
 -- by at most n records
 unfoldable pub divideAtMost : ℕ → List ℕ → Division
 divideAtMost zero [] = records []
 divideAtMost zero (b ∷ l) = brokenAt 0
 divideAtMost (suc n) [] = records []
-divideAtMost (suc n) (b ∷ l) = onward (λ rest. divideAtMost n rest) (b ∷ l) (decode (b ∷ l))
+divideAtMost (suc n) (b ∷ l) = divideOn (λ rest. divideAtMost n rest) (b ∷ l) (decode (b ∷ l))
 
 -- a record has at least one byte, so that the number of bytes is enough
 unfoldable pub divide : List ℕ → Division

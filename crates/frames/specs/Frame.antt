@@ -4,7 +4,8 @@ use Prim.Native.Nat.{ℕ}
 use lib.ListN.{length}
 use Rattle.frames.specs.Record.{Record, encodeAll}
 use Rattle.frames.specs.Trailer.{encodeTrailer}
+use Rattle.frames.specs.declared.Tag.{Tag}
 
 -- the records, then the trailer with their length
-unfoldable pub encodeFrame : ℕ → List Record → List ℕ
-encodeFrame tracepoint rs = encodeAll rs ++ encodeTrailer tracepoint (length (encodeAll rs))
+unfoldable pub encodeFrame : Tag → List Record → List ℕ
+encodeFrame tag rs = encodeAll rs ++ encodeTrailer tag (length (encodeAll rs))

@@ -4,6 +4,7 @@ use mathlib.Core.List.{List, [], _∷_, _++_}
 use Prim.Native.Nat.{ℕ, _+_, _^_, _≤_, _<_}
 use lib.ListN.{length, getD, take, drop}
 use lib.Dec.{leb, ltb, eqb}
+use Rattle.sizes.specs.Sizes.{variable-count, record-most}
 use Rattle.encoding.specs.LittleEndian.{littleEndian, littleBytes}
 
 pub data Record : Type 0 where
@@ -30,10 +31,10 @@ size (variable number value) = 13
 pub record WellFormedMemory (address : ℕ) (bytes : List ℕ) : Type 0 where
   pub address-fits : address < 2 ^ 64
   pub some : 1 ≤ length bytes
-  pub most : length bytes ≤ 65535
+  pub most : length bytes ≤ record-most
 
 pub record WellFormedVariable (number value : ℕ) : Type 0 where
-  pub number-fits : number < 64
+  pub number-fits : number < variable-count
   pub value-fits : value < 2 ^ 64
 
 abbrev pub WellFormed : Record → Type 0
@@ -53,7 +54,8 @@ pub data Decoded : Type 0 where
 abbrev pub field : List ℕ → ℕ → ℕ → ℕ
 field l i n = littleEndian (take n (drop i l))
 
--- l has n bytes or more. Only the first n are counted, so that the division of a frame does not count all that is left at each record.
+-- l has n bytes or more. Only the first n are counted, so that the division of a frame does not count all that is left
+-- at each record.
 abbrev pub has : ℕ → List ℕ → Bool
 has n l = leb n (length (take n l))
 
@@ -67,7 +69,7 @@ decodeMemory l =
 
 -- "variables below 64", by all 4 bytes of the number
 unfoldable pub decodeVariable : List ℕ → Decoded
-decodeVariable l = cond (has 13 l && ltb (field l 1 4) 64) (found (variable (field l 1 4) (field l 5 8))) broken
+decodeVariable l = cond (has 13 l && ltb (field l 1 4) variable-count) (found (variable (field l 1 4) (field l 5 8))) broken
 
 -- the record at the front of the bytes; any other mark is broken, and so is no byte at all
 unfoldable pub decode : List ℕ → Decoded

@@ -4,11 +4,22 @@ pub mod trailer;
 ghost use mathlib.Core.Path.{_≡_};
 ghost use Prim.Native.Nat.{_<_};
 ghost use Rattle.frames.specs.Record.{memory, variable, decodeMemory, decodeVariable, decode};
-ghost use Rattle.frames.specs.Writing.{writtenRecord, Leaves};
-ghost use Rattle.frames.specs.Reading.{sizeOf, Tells};
+ghost use Rattle.frames.specs.Writing.{writtenRecord};
+ghost use Rattle.frames.specs.joining.Answers.{Leaves, sizeOf, Tells};
+ghost use Rattle.frames.specs.Buffer.{unfit};
+
+// 15: the buffer is too large, or more is used than it has.
+pub fn is_unfit(buffer: &[u8], used: usize) -> bool
+    ensures { λ r. ⌜ r ≡ unfit (now (buffer .entry)) used ⌝ }
+{
+    if sizes::BUFFER_MOST < buffer.len() {
+        return true;
+    }
+    buffer.len() < used
+}
 
 // How many bytes a writer has written; or none, for want of room.
-pub enum Written {
+pub enum Put {
     Bytes(usize),
     Full,
 }
@@ -19,63 +30,68 @@ pub const MEMORY_HEADER: usize = 11;
 const VARIABLE_SIZE: usize = 13;
 
 // A writer receives the free part of the buffer. It writes at its front, whole or not at all.
-pub fn write_memory(free: &mut [u8], address: u64, bytes: &[u8]) -> Written
+pub fn write_memory(free: &mut [u8], address: u64, bytes: &[u8]) -> Put
     ensures { λ r. ⌜ Leaves (writtenRecord (now (free .entry)) 0 (memory address (now (bytes .entry)))) r (now (free .exit)) ⌝ }
 {
     let count = bytes.len();
-    if 65535 < count {
-        return Written::Full;
+    if sizes::RECORD_MOST < count {
+        return Put::Full;
     }
     if free.len() < MEMORY_HEADER + count {
-        return Written::Full;
+        return Put::Full;
     }
     free[0] = 0x4d;
     encoding::put_little(free, 1, address, 8);
     encoding::put_little(free, 9, count as u64, 2);
     encoding::put_bytes(free, MEMORY_HEADER, bytes);
-    Written::Bytes(MEMORY_HEADER + count)
+    Put::Bytes(MEMORY_HEADER + count)
 }
 
-pub fn write_variable(free: &mut [u8], number: u32, value: u64) -> Written
+pub fn write_variable(free: &mut [u8], number: u32, value: u64) -> Put
     ensures { λ r. ⌜ Leaves (writtenRecord (now (free .entry)) 0 (variable number value)) r (now (free .exit)) ⌝ }
 {
     if free.len() < VARIABLE_SIZE {
-        return Written::Full;
+        return Put::Full;
     }
     free[0] = 0x56;
     encoding::put_little(free, 1, number as u64, 4);
     encoding::put_little(free, 5, value, 8);
-    Written::Bytes(VARIABLE_SIZE)
+    Put::Bytes(VARIABLE_SIZE)
 }
 
 // The same for a whole buffer of which `used` bytes are taken: its free part is lent to the writer.
-pub fn append_memory(buffer: &mut [u8], used: usize, address: u64, bytes: &[u8]) -> Written
+pub fn append_memory(buffer: &mut [u8], used: usize, address: u64, bytes: &[u8]) -> Put
     ensures { λ r. ⌜ Leaves (writtenRecord (now (buffer .entry)) used (memory address (now (bytes .entry)))) r (now (buffer .exit)) ⌝ }
 {
     if buffer.len() < used {
-        return Written::Full;
+        return Put::Full;
     }
     write_memory(&mut buffer[used..], address, bytes)
 }
 
-pub fn append_variable(buffer: &mut [u8], used: usize, number: u32, value: u64) -> Written
+pub fn append_variable(buffer: &mut [u8], used: usize, number: u32, value: u64) -> Put
     ensures { λ r. ⌜ Leaves (writtenRecord (now (buffer .entry)) used (variable number value)) r (now (buffer .exit)) ⌝ }
 {
     if buffer.len() < used {
-        return Written::Full;
+        return Put::Full;
     }
     write_variable(&mut buffer[used..], number, value)
 }
 
 // A record. Memory: address, length. Variable: number, value.
-pub enum Item {
+pub enum RecordFields {
     Memory(u64, usize),
     Variable(u64, u64),
 }
 
-// The trailer at the end of a frame: tracepoint number, length of the records.
+// What a trailer says of its frame.
+pub struct Tag {
+    pub tracepoint: u16,
+}
+
+// The trailer at the end of a frame: tag, length of the records.
 pub enum Ending {
-    Closes(u16, usize),
+    Closes(Tag, usize),
     NoTrailer,
 }
 
@@ -103,7 +119,7 @@ fn variable_size(bytes: &[u8]) -> usize
         return 0;
     }
     let number = encoding::little_endian(&bytes[1..5]);
-    if number >= 64 {
+    if number >= sizes::VARIABLE_COUNT as u64 {
         return 0;
     }
     VARIABLE_SIZE
@@ -126,17 +142,18 @@ pub fn record_size(bytes: &[u8]) -> usize
     0
 }
 
-// The record at the front, where there is one: nothing that `record_size` has tested is tested again. A number below 64 is its first byte.
-pub fn read_record(bytes: &[u8]) -> Item
+// The record at the front, where there is one: nothing that `record_size` has tested is tested again. A number below 64
+// is its first byte.
+pub fn read_record(bytes: &[u8]) -> RecordFields
     requires { ⌜ 0 < sizeOf (decode (now bytes)) ⌝ }
     ensures { λ r. ⌜ Tells r (decode (now (bytes .entry))) ⌝ }
 {
     if bytes[0] == 0x4d {
         let address = encoding::little_endian(&bytes[1..9]);
         let count = encoding::little_endian(&bytes[9..11]) as usize;
-        return Item::Memory(address, count);
+        return RecordFields::Memory(address, count);
     }
     let number = encoding::wide(bytes[1]);
     let value = encoding::little_endian(&bytes[5..13]);
-    Item::Variable(number, value)
+    RecordFields::Variable(number, value)
 }

@@ -1,5 +1,5 @@
--- What users of `heights` may cite. The contract of `heights` (src/lib.rt): of any bytes its answer is the verifier's, and the array that it
--- leaves has for each offset the height with which walks arrive there (specs/Arrivals.antt).
+-- What users of `heights` may cite. The contract of `heights` (src/lib.rt): of any bytes its answer is the verifier's,
+-- and the array that it leaves has for each offset the height with which walks arrive there (specs/Arrivals.antt).
 use mathlib.Core.Bool.{true}
 use mathlib.Core.List.{List}
 use mathlib.Core.Path.{_≡_, sym, _∙_}
@@ -12,12 +12,13 @@ use lib.Seq.{ext-getD}
 use Rattle.isa.specs.Starts.{isStart}
 use Rattle.isa.specs.Walk.{Walk}
 use Rattle.isa.proofs.Promises.{walk-last}
+use Rattle.verdict.specs.Pass3.{unreached}
 use Rattle.verdict.specs.Acceptance.{Accepted}
 use Rattle.verdict.specs.Verdict.{Verdict, accepted, refused}
 use Rattle.verdict.proofs.Promises.{ready}
-use Rattle.heights.specs.Arrivals.{unreached, Arrivals, ArrivalsBy}
+use Rattle.heights.specs.Arrivals.{Arrivals, ArrivalsBy}
 
--- A cell with 255 says that no walk arrives: 255 is no height, since at most 64 cells remain.
+-- A cell with the mark says that no walk arrives: the mark is no height, since at most 64 cells remain.
 pub no-walk : (e : List ℕ) {n g l : ℕ} → Accepted e n g l → {hs : List ℕ} → Arrivals e hs → {w : List ℕ} {j u : ℕ} → Walk e 0 0 w j u
     → getD hs j 0 ≢ unreached
 no-walk e a r x p = omega (arith, ready e a x .low, r .arrived x)
@@ -40,4 +41,4 @@ module _ {e hs hs′ : List ℕ} (r : Arrivals e hs) (s : Arrivals e hs′) wher
 
 pub one-array : (e : List ℕ) (v : Verdict) (hs hs′ : List ℕ) → ArrivalsBy e v hs → ArrivalsBy e v hs′ → hs ≡ hs′
 one-array e (accepted n g l) hs hs′ r s = same-array r s
-one-array e (refused n k) hs hs′ r s = r ∙ sym s
+one-array e (refused x) hs hs′ r s = r ∙ sym s

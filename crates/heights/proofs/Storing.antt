@@ -11,7 +11,7 @@ use Rattle.isa.specs.Classes.{row, kind-goto, kind-if-goto, kind-end}
 use Rattle.isa.specs.Decode.{classAt, kindAt, picked, needed, heightAfter}
 use Rattle.isa.specs.Walk.{After, target, onward}
 use Rattle.isa.proofs.Promises.{needed-by, left-by, after-by}
-use Rattle.heights.specs.Filling.{AtTarget, AtNext, Room, Stored}
+use Rattle.heights.specs.joining.Filling.{AtTarget, AtNext, Room, Stored}
 
 module _ (e : List ℕ) (k h n l : ℕ) (p : n ≡ getD (row (classAt e k)) 1 0) (q : l ≡ getD (row (classAt e k)) 2 0) (c : needed e k ≤ h) where
   -- a row's cells are among the cells needed

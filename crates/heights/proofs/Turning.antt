@@ -9,15 +9,16 @@ use native.Mathlib.Decide.{ℕ-discrete}
 use lib.ListN.{getD, length, set, replicate, length-set, length-replicate, getD-replicate}
 use lib.Seq.{getD-set-same, getD-set-other}
 use Rattle.isa.specs.Decode.{next, heightAfter}
-use Rattle.isa.specs.Rows.{IsRow}
+use Rattle.isa.specs.joining.Rows.{IsRow}
 use Rattle.isa.specs.declared.Row.{Row}
 use Rattle.isa.specs.Starts.{isStart}
 use Rattle.isa.specs.Walk.{After, Walk, stop, step}
 use Rattle.isa.proofs.Promises.{start-zero, start-in, start-next, before-next, walk-last}
+use Rattle.verdict.specs.Pass3.{unreached}
 use Rattle.verdict.specs.Acceptance.{Acceptable, Accepted, Ready}
 use Rattle.verdict.proofs.Promises.{accepted-means, fitting-accepted, begins, ready, goes-on, goes-forward}
-use Rattle.heights.specs.Arrivals.{unreached, Arrivals}
-use Rattle.heights.specs.Filling.{Room, Stored, Filling}
+use Rattle.heights.specs.Arrivals.{Arrivals}
+use Rattle.heights.specs.joining.Filling.{Room, Stored, Filling}
 use Rattle.heights.proofs.Storing.{row-cells, after-row}
 
 -- ---- what the verifier's page says of the last instruction of a walk
@@ -26,7 +27,7 @@ module _ {e : List ℕ} (a : Acceptable e) where
   accepted-is = accepted-means e (fitting-accepted e a .3)
 
   module _ {w : List ℕ} {j u : ℕ} (x : Walk e 0 0 w j u) where
-    last-ready : (let f = fitting-accepted e a in Ready e (f .2) w j u)
+    last-ready : Ready e j u
     last-ready = ready e accepted-is x
 
     onward-walk : {m : ℕ} → After e j m → Walk e 0 0 (w ++ (m ∷ [])) m (heightAfter e j u)
@@ -43,7 +44,7 @@ module _ {e : List ℕ} (a : Acceptable e) where
     one-height y = a .walks .one-height y x (start-in e j (walk-last x))
 
 -- what a reached start k passes on, where its row has n and l for the cells needed and left
-pub record Going (e : List ℕ) (k : ℕ) (hs : List ℕ) (n l : ℕ) : Type 0 where
+pub record PassesOn (e : List ℕ) (k : ℕ) (hs : List ℕ) (n l : ℕ) : Type 0 where
   pub cells : n ≤ getD hs k 0
   pub after : getD hs k 0 - n + l ≡ heightAfter e k (getD hs k 0)
   pub low : heightAfter e k (getD hs k 0) ≤ 64
@@ -74,16 +75,17 @@ module _ {e : List ℕ} {i : ℕ} {hs : List ℕ} (f : Filling e i hs) where
     walk-to = f .shown k (omega (arith, start-in e k s, f .acceptable .sized .short)) r
 
     after-low : heightAfter e k (getD hs k 0) ≤ 64
+    unfolding heightAfter
     after-low = last-ready (f .acceptable) (walk-to .1) .room
 
     -- its instruction by its row
-    pub going : {r : Row} → IsRow (getD e k 0) r → Going e k hs (r .needed) (r .left)
+    pub going : {r : Row} → IsRow (getD e k 0) r → PassesOn e k hs (r .needed) (r .left)
     going {r} q =
         let y = last-ready (f .acceptable) (walk-to .1) in
         record {
           cells = row-cells e k (getD hs k 0) (r .needed) (r .left) (q .needed-is) (q .left-is) (y .cells);
           after = after-row e k (getD hs k 0) (r .needed) (r .left) (q .needed-is) (q .left-is) (y .cells);
-          low = y .room;
+          low = after-low;
           room = record { short = f .acceptable .sized .short; inside = y .inside; long = f .long; cell = after-cell (f .acceptable) (walk-to .1) };
         }
 

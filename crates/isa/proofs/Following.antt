@@ -8,20 +8,10 @@ use native.Mathlib.Omega.{arith}
 use native.Mathlib.Decide.{ℕ-discrete}
 use lib.ListN.{length}
 use borrow.Author.Tests.{lt-ltb, le-ltb, eq-eqb, ne-eqb}
-use Rattle.encoding.proofs.Promises.{cases, no-true}
-use Rattle.isa.specs.Classes.{member}
+use Rattle.logic.proofs.Promises.{cases, no-true, member-cons, member-here, member-there}
+use Rattle.logic.specs.Tests.{member}
 use Rattle.isa.specs.Decode.{next}
 use Rattle.isa.specs.Starts.{startsAtMost, startsFrom, starts, isStart}
-
--- ---- members of a list
-pub member-cons : (k x : ℕ) (xs : List ℕ) → member k (x ∷ xs) ≡ true → (k ≡ x) ⊎ (member k xs ≡ true)
-member-cons k x xs h = elim (ℕ-discrete k x) [ yes p ↦ inl p | no p ↦ inr (rw (ne-eqb k x p) at h) ]
-
-pub member-here : (k x : ℕ) (xs : List ℕ) → k ≡ x → member k (x ∷ xs) ≡ true
-member-here k x xs p = rw (eq-eqb k x p)
-
-pub member-there : (k x : ℕ) (xs : List ℕ) → member k xs ≡ true → member k (x ∷ xs) ≡ true
-member-there k x xs h = elim (ℕ-discrete k x) [ yes p ↦ member-here k x xs p | no p ↦ rw (ne-eqb k x p) h ]
 
 -- ---- the two equations of startsFrom
 at-end : (n : ℕ) (e : List ℕ) (i : ℕ) → length e ≤ i → startsAtMost n e i ≡ []

@@ -7,7 +7,7 @@ use native.Mathlib.Numerals.{add-one}
 use native.Mathlib.Omega.{arith}
 use lib.ListN.{length, drop, getD, set}
 use lib.Seq.{getD-set-same, getD-set-other}
-use Rattle.isa.specs.Held.{held}
+use Rattle.isa.specs.joining.Held.{held}
 
 pub length-held : (a : List ℕ) (h : ℕ) → length (held a h) ≡ h
 unfolding held

@@ -1,5 +1,5 @@
--- What users of `isa` may cite, each law stated in full and proved where it is named. The contracts of src/lib.rt are the rest.
--- That the classes say of all 256 bytes what document 01's table says is `agrees`, in specs/Document.antt.
+-- What users of `isa` may cite, each law stated in full and proved where it is named. The contracts of src/lib.rt are
+-- the rest. That the classes say of all 256 bytes what document 01's table says is `agrees`, in specs/Document.antt.
 use mathlib.Core.Bool.{true, false, cond}
 use mathlib.Core.List.{List, [], _∷_, _++_}
 use mathlib.Core.Path.{_≡_}
@@ -7,10 +7,11 @@ use mathlib.Core.Logic.{_⊎_, _≢_}
 use Prim.Native.Nat.{ℕ, _+_, _-_, _≤_, _<_}
 use lib.ListN.{length, getD, drop}
 use lib.Dec.{eqb}
-use Rattle.isa.specs.Classes.{Class, ref, classOf, row, kind, member, kind-unknown, kind-unsupported, kind-ext, kind-variable, kind-pick, kind-goto, kind-if-goto, kind-end}
+use Rattle.isa.specs.Classes.{Class, ref, classOf, row, kind, kind-unknown, kind-unsupported, kind-ext, kind-variable, kind-pick, kind-goto, kind-if-goto, kind-end}
+use Rattle.logic.specs.Tests.{member}
 use Rattle.isa.specs.Decode.{classAt, kindAt, operandBytes, next, operand, picked, needed, left, heightAfter}
 use Rattle.isa.specs.Starts.{startsFrom, isStart}
-use Rattle.isa.specs.Held.{held}
+use Rattle.isa.specs.joining.Held.{held}
 use Rattle.isa.specs.Walk.{After, Walk, weigh, one}
 use Rattle.isa.proofs.Table as table
 use Rattle.isa.proofs.Decoding as decoding
@@ -90,17 +91,6 @@ module _ (e : List ℕ) (k : ℕ) where
 
     pub left-class : left e k ≡ getD (row c) 2 0 + cond (eqb (kind c) kind-pick) (operand e k) 0
     left-class = decoding.left-class e k c p
-
--- ---- members of a list of offsets
-module _ (k x : ℕ) (xs : List ℕ) where
-  pub member-cons : member k (x ∷ xs) ≡ true → (k ≡ x) ⊎ (member k xs ≡ true)
-  member-cons = following.member-cons k x xs
-
-  pub member-here : k ≡ x → member k (x ∷ xs) ≡ true
-  member-here = following.member-here k x xs
-
-  pub member-there : member k xs ≡ true → member k (x ∷ xs) ≡ true
-  member-there = following.member-there k x xs
 
 -- ---- the starts of an expression: their two equations, induction over them, and their order
 module _ (e : List ℕ) where

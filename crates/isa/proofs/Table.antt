@@ -9,9 +9,10 @@ use native.Mathlib.Decide.{ℕ-discrete, decLt}
 use lib.ListN.{getD}
 use lib.Dec.{T, eqb, leb, ltb, eqb→eq, leb→le, ltb→lt}
 use borrow.Author.Tests.{eq-eqb, ne-eqb}
-use Rattle.encoding.proofs.Promises.{and-left, and-right}
-use Rattle.isa.specs.Classes.{Class, binary, trace, tracenz, unary, ref, trace-quick, ext, zero-ext, setv, if-goto, goto, constant, reg, getv, tracev, end, dup, pop, swap, pick, rot, unsupported, unknown, row, kind, member, opcodes, among, classOf, kind-unknown, kind-unsupported, kind-ext, kind-variable, kind-goto, kind-if-goto, kind-end, kind-pick}
-use Rattle.isa.specs.Rows.{line, rowsFrom, table}
+use Rattle.logic.proofs.Promises.{and-left, and-right}
+use Rattle.isa.specs.Classes.{Class, binary, trace, tracenz, unary, ref, trace-quick, ext, zero-ext, setv, if-goto, goto, constant, reg, getv, tracev, end, dup, pop, swap, pick, rot, unsupported, unknown, row, kind, opcodes, among, classOf, kind-unknown, kind-unsupported, kind-ext, kind-variable, kind-goto, kind-if-goto, kind-end, kind-pick}
+use Rattle.logic.specs.Tests.{member}
+use Rattle.isa.specs.joining.Rows.{line, rowsFrom, table}
 
 -- ---- what one test shows of every opcode
 abbrev pub everyClass : (Class → Bool) → List (List ℕ × Class) → Bool

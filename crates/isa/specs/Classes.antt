@@ -1,9 +1,10 @@
--- The instructions by class. A class is a set of opcodes of one line of document 01's table that are alike in meaning, with the byte count
--- inside where several opcodes differ in that alone: const8 to const64 are `constant 1` to `constant 8`.
-use mathlib.Core.Bool.{Bool, false, cond, _||_}
+-- The instructions by class. A class is a set of opcodes of one line of document 01's table that are alike in meaning,
+-- with the byte count inside where several opcodes differ in that alone: const8 to const64 are `constant 1` to
+-- `constant 8`.
+use mathlib.Core.Bool.{cond}
 use mathlib.Core.List.{List, [], _∷_}
 use Prim.Native.Nat.{ℕ}
-use lib.Dec.{eqb}
+use Rattle.logic.specs.Tests.{member}
 
 pub data Class : Type 0 where
   binary : Class
@@ -30,7 +31,8 @@ pub data Class : Type 0 where
   unsupported : Class
   unknown : Class
 
--- The row of a class: operand bytes, cells needed, cells left in their place. That of pick is for N = 0: N comes on top of both.
+-- The row of a class: operand bytes, cells needed, cells left in their place. That of pick is for N = 0: N comes on top
+-- of both.
 abbrev pub row : Class → List ℕ
 row binary = 0 ∷ 2 ∷ 1 ∷ []
 row trace = 0 ∷ 2 ∷ 0 ∷ []
@@ -56,8 +58,8 @@ row rot = 0 ∷ 3 ∷ 3 ∷ []
 row unsupported = 0 ∷ 0 ∷ 0 ∷ []
 row unknown = 0 ∷ 0 ∷ 0 ∷ []
 
--- The kind of a class: which rule of the verifier singles it out, as a number. Those below `kind-plain` have a rule in pass 1, those above it in
--- passes 2 and 3; `plain` is every other supported instruction.
+-- The kind of a class: which rule of the verifier singles it out, as a number. Those below `kind-plain` have a rule in
+-- pass 1, those above it in passes 2 and 3; `plain` is every other supported instruction.
 abbrev pub kind-unknown : ℕ
 kind-unknown = 0
 
@@ -110,10 +112,6 @@ kind pick = kind-pick
 kind rot = kind-plain
 kind unsupported = kind-unsupported
 kind unknown = kind-unknown
-
-abbrev pub member : ℕ → List ℕ → Bool
-member k [] = false
-member k (x ∷ xs) = eqb k x || member k xs
 
 -- The opcodes of each class.
 unfoldable pub opcodes : List (List ℕ × Class)

@@ -4,7 +4,8 @@ use mathlib.Core.List.{List, [], _∷_, _++_, map}
 use mathlib.Core.Path.{_≡_, refl}
 use Prim.Native.Nat.{ℕ, zero, suc}
 use lib.Dec.{eqb}
-use Rattle.isa.specs.Classes.{Class, binary, trace, tracenz, unary, ref, trace-quick, ext, zero-ext, setv, if-goto, goto, constant, reg, getv, tracev, end, dup, pop, swap, pick, rot, unsupported, unknown, row, kind, kind-unknown, kind-unsupported, kind-ext, kind-variable, kind-plain, kind-pick, kind-goto, kind-if-goto, kind-end, member, opcodes, classOf}
+use Rattle.isa.specs.Classes.{Class, binary, trace, tracenz, unary, ref, trace-quick, ext, zero-ext, setv, if-goto, goto, constant, reg, getv, tracev, end, dup, pop, swap, pick, rot, unsupported, unknown, row, kind, kind-unknown, kind-unsupported, kind-ext, kind-variable, kind-plain, kind-pick, kind-goto, kind-if-goto, kind-end, opcodes, classOf}
+use Rattle.logic.specs.Tests.{member}
 
 -- opcodes of one class
 abbrev each : List ℕ → Class → List (ℕ × Class)

@@ -4,5 +4,4 @@ pub mod Document
 pub mod Decode
 pub mod Starts
 pub mod Walk
-pub mod Rows
-pub mod Held
+pub mod joining

@@ -1,10 +1,11 @@
--- The instruction starts of an expression: "from offset 0, instructions follow each other" (document 01, "Verifying", pass 1).
+-- The instruction starts of an expression: "from offset 0, instructions follow each other" (document 01, "Verifying",
+-- pass 1).
 use mathlib.Core.Bool.{Bool, true, false}
 use mathlib.Core.List.{List, [], _∷_}
 use Prim.Native.Nat.{ℕ, zero, suc, _-_}
 use lib.ListN.{length}
 use lib.Dec.{ltb}
-use Rattle.isa.specs.Classes.{member}
+use Rattle.logic.specs.Tests.{member}
 use Rattle.isa.specs.Decode.{next}
 
 -- the starts from offset i on, at most n of them

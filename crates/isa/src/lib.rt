@@ -1,12 +1,15 @@
 // The instruction table, decoding, and the stack's limits.
+pub mod opcode;
+
 ghost use mathlib.Core.List.{_∷_};
 ghost use mathlib.Core.Path.{_≡_};
 ghost use Prim.Native.Nat.{_+_, _≤_, _<_, _^_, _-_};
 ghost use lib.ListN.{length, getD, replicate, drop};
-ghost use Rattle.encoding.specs.Tried.{Decides};
+ghost use Rattle.sizes.specs.Sizes.{«stack-cells»};
+ghost use Rattle.logic.specs.Tests.{Decides};
 ghost use Rattle.isa.specs.Classes.{classOf};
-ghost use Rattle.isa.specs.Held.{held};
-ghost use Rattle.isa.specs.Rows.{table, line, IsRow};
+ghost use Rattle.isa.specs.joining.Held.{held};
+ghost use Rattle.isa.specs.joining.Rows.{table, line, IsRow};
 ghost use Rattle.isa.specs.Decode.{operandBytes, operand, next, picked};
 
 // A row by opcode: operand bytes, cells needed, cells left in their place, kind (specs/Classes.antt). That of pick is
@@ -166,10 +169,10 @@ pub struct Stack {
 }
 
 impl Stack {
-    pub const DEPTH: usize = 64;
+    pub const DEPTH: usize = sizes::STACK_CELLS;
 
     pub fn empty() -> Stack
-        ensures { λ r. ⌜ (r .height ≡ 0) × (r .cells ≡ replicate 64 0) ⌝ }
+        ensures { λ r. ⌜ (r .height ≡ 0) × (r .cells ≡ replicate stack-cells 0) ⌝ }
     {
         Stack {
             cells: [0u64; Stack::DEPTH],
@@ -179,7 +182,7 @@ impl Stack {
 
     // Whether so many cells fit.
     pub fn fits(height: usize) -> bool
-        ensures { λ r. ⌜ Decides r height 64 ⌝ }
+        ensures { λ r. ⌜ Decides r height stack-cells ⌝ }
     {
         height <= Stack::DEPTH
     }
@@ -193,7 +196,7 @@ impl Stack {
 
     // The cell `depth` below the top.
     pub fn below(cells: &[u64; Stack::DEPTH], height: usize, depth: usize) -> u64
-        requires { ⌜ depth < height ⌝ ∗ ⌜ height ≤ 64 ⌝ }
+        requires { ⌜ depth < height ⌝ ∗ ⌜ height ≤ stack-cells ⌝ }
         ensures { λ r. ⌜ r ≡ getD (held (now (cells .entry)) height) depth 0 ⌝ }
     {
         cells[height - 1 - depth]
@@ -201,8 +204,8 @@ impl Stack {
 
     // Puts `cell` in the place of the `count` topmost ones. The answer is the new height.
     pub fn replace(cells: &mut [u64; Stack::DEPTH], height: usize, count: usize, cell: u64) -> usize
-        requires { ⌜ count ≤ height ⌝ ∗ ⌜ height - count < 64 ⌝ ∗ ⌜ length (now cells) ≡ 64 ⌝ }
-        ensures { λ r. ⌜ (r ≡ height - count + 1) × (held (now (cells .exit)) r ≡ cell ∷ drop count (held (now (cells .entry)) height)) × (length (now (cells .exit)) ≡ 64) ⌝ }
+        requires { ⌜ count ≤ height ⌝ ∗ ⌜ height - count < stack-cells ⌝ ∗ ⌜ length (now cells) ≡ stack-cells ⌝ }
+        ensures { λ r. ⌜ (r ≡ height - count + 1) × (held (now (cells .exit)) r ≡ cell ∷ drop count (held (now (cells .entry)) height)) × (length (now (cells .exit)) ≡ stack-cells) ⌝ }
     {
         cells[height - count] = cell;
         height - count + 1

@@ -1,7 +1,7 @@
 // The fields of a line: single spaces between them, and each a number or a string of bytes.
 ghost use Prim.Native.Nat.{_≤_};
 ghost use lib.ListN.{length};
-use report::hex::Decoded;
+use hexadecimal::HexAnswer;
 
 // Where the first field of a text ends.
 fn first_end(text: &[u8]) -> usize
@@ -101,8 +101,8 @@ fn is_bytes(text: &[u8]) -> bool {
         return text[0] == b'-';
     }
     let mut bytes = [0u8; 4096];
-    match report::hex::decode(text, &mut bytes) {
-        Decoded::Bytes(_) => true,
+    match hexadecimal::decode(text, &mut bytes) {
+        HexAnswer::Bytes(_) => true,
         _ => false,
     }
 }
@@ -163,8 +163,8 @@ pub fn number_at(text: &[u8], place: usize) -> u64 {
 pub fn bytes_at(text: &[u8], place: usize, out: &mut [u8]) -> usize
     ensures { λ r. ⌜ r ≤ length (now (out .exit)) ⌝ }
 {
-    match report::hex::decode(field(text, place), out) {
-        Decoded::Bytes(n) => n,
+    match hexadecimal::decode(field(text, place), out) {
+        HexAnswer::Bytes(n) => n,
         _ => 0,
     }
 }

@@ -22,16 +22,16 @@ ghost use Rattle.io.specs.Counts.{Counts};
 use fields::bytes_at;
 use fields::has_fields;
 use fields::number_at;
-use frames::Written;
+use frames::Put;
 use libc::STDOUT_FILENO;
 use reading::append_division;
 use reading::append_frames;
-use report::text::append;
 use text::append_broken;
 use text::append_bytes;
 use text::append_refused;
 use text::append_search;
 use text::append_written;
+use text_buffer::append;
 use words::append_word;
 
 fn append_lent(out: &mut [u8], refusal: u8, bytes: &[u8]) -> usize
@@ -80,25 +80,29 @@ fn append_zero(out: &mut [u8], line: &[u8]) -> usize
     append_search(out, memory::find_zero(&bytes[0..n], size))
 }
 
-fn write_memory(part: &mut [u8], line: &[u8]) -> Written {
+fn write_memory(part: &mut [u8], line: &[u8]) -> Put {
     let mut bytes = [0u8; 4096];
     let n = bytes_at(line, 3, &mut bytes);
     frames::write_memory(part, number_at(line, 2), &bytes[0..n])
 }
 
 // `fields_of` has bounded the numbers; the remainders are for the proof that they fit.
-fn write_variable(part: &mut [u8], line: &[u8]) -> Written {
+fn write_variable(part: &mut [u8], line: &[u8]) -> Put {
     let number = number_at(line, 2) % 0x1_0000_0000;
     frames::write_variable(part, number as u32, number_at(line, 3))
 }
 
-fn write_trailer(part: &mut [u8], line: &[u8]) -> Written {
+fn write_trailer(part: &mut [u8], line: &[u8]) -> Put {
     let tracepoint = number_at(line, 2) % 0x1_0000;
     let length = number_at(line, 3) % 0x1_0000_0000;
-    frames::trailer::write_trailer(part, tracepoint as u16, length as u32)
+    frames::trailer::write_trailer(
+        part,
+        frames::trailer::tag_of(tracepoint as u16),
+        length as u32,
+    )
 }
 
-fn write_record(part: &mut [u8], kind: u8, line: &[u8]) -> Written {
+fn write_record(part: &mut [u8], kind: u8, line: &[u8]) -> Put {
     match kind {
         b'm' => write_memory(part, line),
         b'v' => write_variable(part, line),

@@ -5,11 +5,13 @@ use crate::fields::number_at;
 use crate::text::append_broken;
 use crate::text::append_bytes;
 use crate::text::append_number;
-use frames::Written;
-use reader::Count;
-use reader::Place;
-use reader::Reading;
-use report::text::append;
+use frames::Put;
+use frames::Tag;
+use reader::CountAnswer;
+use reader::FrameAnswer;
+use reader::RecordAnswer;
+use refusals::Refusal;
+use text_buffer::append;
 
 // ---- the text of an answer
 // A space and a number.
@@ -20,67 +22,67 @@ fn append_next(out: &mut [u8], at: usize, number: u64) -> usize
     append_number(out, a, number)
 }
 
-fn append_refusal(out: &mut [u8], refusal: u8, offset: usize) -> usize
+fn append_refusal(out: &mut [u8], refusal: Refusal) -> usize
     ensures { λ r. ⌜ Counts r (now (out .exit)) ⌝ }
 {
     let a = append(out, 0, b"refused");
-    let b = append_next(out, a, encoding::wide(refusal));
-    append_next(out, b, offset as u64)
+    let b = append_next(out, a, encoding::wide(refusal.number));
+    append_next(out, b, refusal.offset as u64)
 }
 
-// A word, a tracepoint number and two numbers.
-fn append_three(out: &mut [u8], word: &[u8], tracepoint: u16, a: u64, b: u64) -> usize
+// A word, what the trailer says, and two numbers.
+fn append_three(out: &mut [u8], word: &[u8], tag: Tag, a: u64, b: u64) -> usize
     ensures { λ r. ⌜ Counts r (now (out .exit)) ⌝ }
 {
     let n = append(out, 0, word);
-    let m = append_next(out, n, tracepoint as u64);
+    let m = append_next(out, n, tag.tracepoint as u64);
     let k = append_next(out, m, a);
     append_next(out, k, b)
 }
 
-fn append_place(out: &mut [u8], place: Place) -> usize
+fn append_frame(out: &mut [u8], answer: FrameAnswer) -> usize
     ensures { λ r. ⌜ Counts r (now (out .exit)) ⌝ }
 {
-    match place {
-        Place::Frame(tracepoint, start, length) => append_three(
+    match answer {
+        FrameAnswer::Frame(tag, start, length) => append_three(
             out,
             b"frame",
-            tracepoint,
+            tag,
             start as u64,
             length as u64,
         ),
-        Place::NoFrame(refusal, offset) => append_refusal(out, refusal, offset),
+        FrameAnswer::Refused(refusal) => append_refusal(out, refusal),
     }
 }
 
-fn append_count(out: &mut [u8], count: Count) -> usize
+fn append_count(out: &mut [u8], answer: CountAnswer) -> usize
     ensures { λ r. ⌜ Counts r (now (out .exit)) ⌝ }
 {
-    match count {
-        Count::Records(tracepoint, start, length, records) => {
-            let n = append_three(out, b"records", tracepoint, start as u64, length as u64);
+    match answer {
+        CountAnswer::Records(tag, start, length, records) => {
+            let n = append_three(out, b"records", tag, start as u64, length as u64);
             append_next(out, n, records as u64)
         }
-        Count::NoCount(refusal, offset) => append_refusal(out, refusal, offset),
+        CountAnswer::Refused(refusal) => append_refusal(out, refusal),
     }
 }
 
-fn append_reading(out: &mut [u8], reading: Reading) -> usize
+fn append_reading(out: &mut [u8], answer: RecordAnswer) -> usize
     ensures { λ r. ⌜ Counts r (now (out .exit)) ⌝ }
 {
-    match reading {
-        Reading::Memory(tracepoint, address, length, place) => {
-            let n = append_three(out, b"memory", tracepoint, address, length as u64);
+    match answer {
+        RecordAnswer::Memory(tag, address, length, place) => {
+            let n = append_three(out, b"memory", tag, address, length as u64);
             append_next(out, n, place as u64)
         }
-        Reading::Variable(tracepoint, number, value) => append_three(
+        RecordAnswer::Variable(tag, number, value) => append_three(
             out,
             b"variable",
-            tracepoint,
+            tag,
             number,
             value,
         ),
-        Reading::NoReading(refusal, offset) => append_refusal(out, refusal, offset),
+        RecordAnswer::Refused(refusal) => append_refusal(out, refusal),
     }
 }
 
@@ -91,8 +93,8 @@ fn append_asked(out: &mut [u8], kind: u8, line: &[u8], buffer: &[u8]) -> usize
     let used = number_at(line, 3) as usize;
     let frame = number_at(line, 4);
     match kind {
-        b's' => append_place(out, reader::walk(buffer, used)),
-        b'l' => append_place(out, reader::locate(buffer, used, frame)),
+        b's' => append_frame(out, reader::walk(buffer, used)),
+        b'l' => append_frame(out, reader::locate(buffer, used, frame)),
         b'c' => append_count(out, reader::count_records(buffer, used, frame)),
         _ => append_reading(out, reader::read(buffer, used, frame, number_at(line, 5))),
     }
@@ -140,22 +142,22 @@ fn recorded<'a>(buffer: &'a [u8], place: usize, length: usize) -> &'a [u8] {
     &buffer[place..end]
 }
 
-fn append_record(out: &mut [u8], at: usize, buffer: &[u8], reading: Reading) -> usize
+fn append_record(out: &mut [u8], at: usize, buffer: &[u8], answer: RecordAnswer) -> usize
     ensures { λ r. ⌜ Counts r (now (out .exit)) ⌝ }
 {
-    match reading {
-        Reading::Memory(tracepoint, address, length, place) => {
+    match answer {
+        RecordAnswer::Memory(tag, address, length, place) => {
             let a = append(out, at, b"m");
             let b = append_next(out, a, address);
             let c = append(out, b, b" ");
             append_bytes(out, c, recorded(buffer, place, length))
         }
-        Reading::Variable(tracepoint, number, value) => {
+        RecordAnswer::Variable(tag, number, value) => {
             let a = append(out, at, b"v");
             let b = append_next(out, a, number);
             append_next(out, b, value)
         }
-        Reading::NoReading(refusal, offset) => append(out, at, b"?"),
+        RecordAnswer::Refused(refusal) => append(out, at, b"?"),
     }
 }
 
@@ -191,8 +193,8 @@ fn append_divided(out: &mut [u8], buffer: &[u8]) -> usize
     ensures { λ r. ⌜ Counts r (now (out .exit)) ⌝ }
 {
     match reader::count_records(buffer, buffer.len(), 0) {
-        Count::NoCount(refusal, offset) => append_refusal(out, refusal, offset),
-        Count::Records(tracepoint, start, length, records) => {
+        CountAnswer::Refused(refusal) => append_refusal(out, refusal),
+        CountAnswer::Records(tag, start, length, records) => {
             if records == 0 {
                 return append(out, 0, b"none");
             }
@@ -205,9 +207,10 @@ fn append_divided(out: &mut [u8], buffer: &[u8]) -> usize
 fn append_closed(out: &mut [u8], frame: &mut [u8], n: u32) -> usize
     ensures { λ r. ⌜ Counts r (now (out .exit)) ⌝ }
 {
-    match frames::trailer::append_trailer(frame, n as usize, 7, n) {
-        Written::Full => append_broken(out),
-        Written::Bytes(written) => append_divided(out, frame),
+    let tag = frames::trailer::tag_of(7);
+    match frames::trailer::append_trailer(frame, n as usize, tag, n) {
+        Put::Full => append_broken(out),
+        Put::Bytes(written) => append_divided(out, frame),
     }
 }
 

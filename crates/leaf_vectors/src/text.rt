@@ -1,8 +1,8 @@
-// The text of an answer, appended to a buffer as `report` does.
+// The text of an answer, appended to a buffer as `text_buffer` does.
 ghost use Rattle.io.specs.Counts.{Counts};
-use frames::Written;
+use frames::Put;
 use memory::Search;
-use report::text::append;
+use text_buffer::append;
 
 fn append_digits(out: &mut [u8], at: usize, number: u64, width: usize) -> usize
     ensures { λ r. ⌜ Counts r (now (out .exit)) ⌝ }
@@ -69,17 +69,17 @@ pub fn append_search(out: &mut [u8], search: Search) -> usize
     }
 }
 
-fn append_outcome(out: &mut [u8], written: Written) -> usize
+fn append_outcome(out: &mut [u8], written: Put) -> usize
     ensures { λ r. ⌜ Counts r (now (out .exit)) ⌝ }
 {
     match written {
-        Written::Bytes(n) => append_number(out, 0, n as u64),
-        Written::Full => append(out, 0, b"full"),
+        Put::Bytes(n) => append_number(out, 0, n as u64),
+        Put::Full => append(out, 0, b"full"),
     }
 }
 
 // What a writer has answered, and the whole part that it was lent.
-pub fn append_written(out: &mut [u8], written: Written, part: &[u8]) -> usize
+pub fn append_written(out: &mut [u8], written: Put, part: &[u8]) -> usize
     ensures { λ r. ⌜ Counts r (now (out .exit)) ⌝ }
 {
     let a = append_outcome(out, written);

@@ -1,8 +1,8 @@
 // lilivrez: the command-line tool. A program has no exit status of its own, so the first word of
 // each answer on standard output is fixed: accepted, refused or completed.
-use output::print;
-use output::print_error;
-use output::print_error_of;
+use console_output::print;
+use console_output::print_error;
+use console_output::print_error_of;
 
 fn print_help() {
     print(

@@ -1,4 +1,3 @@
 -- What the exported functions of `lilivrez_agent` give, as numbers.
 pub mod Lent
-pub mod Told
-pub mod Frames
+pub mod RunValues

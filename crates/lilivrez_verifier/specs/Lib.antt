@@ -1,2 +1,2 @@
 -- What the exported functions of `lilivrez_verifier` give.
-pub mod Told
+pub mod VerdictNumbers

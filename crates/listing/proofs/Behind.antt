@@ -2,23 +2,22 @@
 use Prim.Native.Nat.{ℕ, _+_, _-_, _^_, _<_}
 use native.Mathlib.Omega.{arith}
 use mathlib.Core.Bool.{true}
-use mathlib.Core.List.{List, [], _∷_, _++_}
+use mathlib.Core.List.{List, [], _∷_, _++_, append-assoc}
 use mathlib.Core.Path.{_≡_, refl, sym, ap, _∙_}
 use lib.Dec.{T}
 use lib.ListN.{length, take, drop, getD, replicate, length-append}
 use lib.Seq.{take-at}
 use Rattle.isa.specs.Decode.{operandBytes, operand, next}
-use Rattle.report.proofs.Promises.{append-assoc}
-use Rattle.words.proofs.Promises.{all, all-append}
+use Rattle.line_words.proofs.Promises.{all, all-append}
 use Rattle.encoding.specs.Ranges.{AllBytes}
-use Rattle.listing.specs.Numbers.{decimal}
-use Rattle.listing.specs.Text.{textAt}
+use Rattle.text_buffer.specs.Decimal.{decimal}
+use Rattle.instruction_text.specs.Text.{textAt}
 use Rattle.listing.specs.Meant.{isHeading, isNot, meant}
 use Rattle.listing.specs.Listing.{bytes, afterBytes, readLines, linesOf}
-use Rattle.listing.specs.declared.reading.Line.the-variants.{Instruction}
+use Rattle.listing.specs.declared.reading.ListingLine.the-variants.{Instruction}
 use Rattle.listing.proofs.Inverse.{plain-digits, plain-spaces, plain-row, feedless, comment-back, line-divided, operand-low, operand-below, line-then}
-use Rattle.listing.proofs.Opcodes.{good-name}
-use Rattle.listing.proofs.Texting.{Instructed, rowText, text-parts}
+use Rattle.listing.proofs.Plain.{good-name}
+use Rattle.instruction_text.proofs.Promises.{Instructed, rowText, text-parts}
 
 -- ---- a text without a line feed
 abbrev pub Feedless : List ℕ → Type 0

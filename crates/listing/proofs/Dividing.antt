@@ -11,19 +11,19 @@ use lib.ListN.{length, take, drop, length-drop, drop-of-length-le}
 use lib.Seq.{take-all, take-take, length-take-le, drop-drop}
 use borrow.Author.Tests.{eq-eqb, ne-eqb}
 use Rattle.encoding.proofs.Promises.{part-lent}
-use Rattle.report.specs.Text.{bytesOf}
-use Rattle.words.specs.Words.{leading, sameBytes}
-use Rattle.words.proofs.Promises.{Counted, same-sound}
+use Rattle.text_buffer.specs.Text.{bytesOf}
+use Rattle.line_words.specs.Words.{leading, sameBytes}
+use Rattle.line_words.proofs.Promises.{Counted, same-sound}
 use Rattle.listing.specs.Line.{readLine, readAnswer, readLeft}
 use Rattle.listing.specs.Meant.{headings, begins, beginsOne, isHeading, isNot, before, beforeComment, meant}
 use Rattle.listing.specs.Listing.{onto, linesOf, IsLine}
-use Rattle.listing.specs.Whole.{Outcome, afterLine, outcomeFrom, outcome}
-use Rattle.listing.specs.declared.reading.Fault.{Fault}
-use Rattle.listing.specs.declared.reading.Line.the-variants.{Nothing}
-use Rattle.listing.specs.declared.reading.Read.{Read}
-use Rattle.listing.specs.declared.reading.Read.the-variants.{Bytes as Read·bytes, NoRoom as Read·noRoom, Wrong as Read·wrong}
-use Rattle.listing.specs.declared.whole.Whole.{Whole}
-use Rattle.listing.specs.declared.whole.Whole.the-variants.{Bytes, NoRoom, Wrong}
+use Rattle.listing.specs.Whole.{ListingOutcome, afterLine, outcomeFrom, outcome}
+use Rattle.listing.specs.declared.reading.LineFault.{LineFault}
+use Rattle.listing.specs.declared.reading.ListingLine.the-variants.{Nothing}
+use Rattle.listing.specs.declared.reading.LineRead.{LineRead}
+use Rattle.listing.specs.declared.reading.LineRead.the-variants.{Bytes as LineRead·bytes, NoRoom as LineRead·noRoom, Wrong as LineRead·wrong}
+use Rattle.listing.specs.declared.whole.ListingRead.{ListingRead}
+use Rattle.listing.specs.declared.whole.ListingRead.the-variants.{Bytes, NoRoom, Wrong}
 
 -- ---- `begins_with`
 falsehood : (b : Bool) → (T b → ⊥) → false ≡ b
@@ -157,7 +157,7 @@ pub record Reading (t o₀ : List ℕ) (i n at : ℕ) (o : List ℕ) : Type 0 wh
   pub rest : outcomeFrom n at o (linesOf (drop i t)) ≡ outcome t o₀
 
 -- what `read_listing` ensures
-abbrev pub Reads : List ℕ → List ℕ → Whole → List ℕ → Type 0
+abbrev pub Reads : List ℕ → List ℕ → ListingRead → List ℕ → Type 0
 Reads t o₀ r o = (r ≡ outcome t o₀ .answer) × ((o ≡ outcome t o₀ .left) × ((n : ℕ) → r ≡ Bytes n → n ≤ length o))
 
 pub reading-start : (t o : List ℕ) → Reading t o 0 1 0 o
@@ -169,23 +169,23 @@ module _ {t o₀ : List ℕ} {i n at : ℕ} {o : List ℕ} (g : Reading t o₀ i
   unfolding outcomeFrom linesOf
   reading-end h =
       let e : record { answer = Bytes at; left = o } ≡ outcome t o₀ = sym (ap (λ (l : List ℕ). outcomeFrom n at o (linesOf l)) (drop-of-length-le t h)) ∙ g .rest in
-      (ap (λ (x : Outcome). x .answer) e, (ap (λ (x : Outcome). x .left) e, λ m q. let same : at ≡ m = cc in omega (arith, g .room)))
+      (ap (λ (x : ListingOutcome). x .answer) e, (ap (λ (x : ListingOutcome). x .left) e, λ m q. let same : at ≡ m = cc in omega (arith, g .room)))
 
-  module _ {j : ℕ} (is : IsLine t i j) (r : Read) (o' : List ℕ)
+  module _ {j : ℕ} (is : IsLine t i j) (r : LineRead) (o' : List ℕ)
       (answer : r ≡ readAnswer (meant at (take (j - i) (drop i t))) at o) (bytes : o' ≡ readLeft (meant at (take (j - i) (drop i t))) at o) where
     after : afterLine n o' r (λ k. outcomeFrom (n + 1) (at + k) o' (linesOf (drop j t))) ≡ outcome t o₀
     unfolding outcomeFrom
     after = rw (answer, bytes) (sym (ap (outcomeFrom n at o) (is .first-is)) ∙ g .rest)
 
-    pub reading-on : (k : ℕ) → r ≡ Read·bytes k → at + k ≤ length o' → length o' ≡ length o → Reading t o₀ j (n + 1) (at + k) o'
+    pub reading-on : (k : ℕ) → r ≡ LineRead·bytes k → at + k ≤ length o' → length o' ≡ length o → Reading t o₀ j (n + 1) (at + k) o'
     reading-on k e h s = record { inside = is .within; few = omega (arith, g .few, is .more); room = h; same = s ∙ g .same; rest = rw e at after }
 
-    pub reading-full : r ≡ Read·noRoom → Reads t o₀ (NoRoom n) o'
+    pub reading-full : r ≡ LineRead·noRoom → Reads t o₀ (NoRoom n) o'
     reading-full e =
         let a = rw e at after in
-        (ap (λ (x : Outcome). x .answer) a, (ap (λ (x : Outcome). x .left) a, λ m q. let z : _≡_ {A = ℕ} 0 1 = cc in omega arith))
+        (ap (λ (x : ListingOutcome). x .answer) a, (ap (λ (x : ListingOutcome). x .left) a, λ m q. let z : _≡_ {A = ℕ} 0 1 = cc in omega arith))
 
-    pub reading-wrong : (f : Fault) (c : ℕ) → r ≡ Read·wrong f c → Reads t o₀ (Wrong n f c) o'
+    pub reading-wrong : (f : LineFault) (c : ℕ) → r ≡ LineRead·wrong f c → Reads t o₀ (Wrong n f c) o'
     reading-wrong f c e =
         let a = rw e at after in
-        (ap (λ (x : Outcome). x .answer) a, (ap (λ (x : Outcome). x .left) a, λ m q. let z : _≡_ {A = ℕ} 0 1 = cc in omega arith))
+        (ap (λ (x : ListingOutcome). x .answer) a, (ap (λ (x : ListingOutcome). x .left) a, λ m q. let z : _≡_ {A = ℕ} 0 1 = cc in omega arith))

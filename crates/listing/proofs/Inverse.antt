@@ -4,38 +4,37 @@ use native.Mathlib.Nat.{pow-le-pow-right}
 use native.Mathlib.Omega.{arith}
 use native.Mathlib.Numerals.{add-one}
 use mathlib.Core.Bool.{Bool, true, false, cond, not, _&&_}
-use mathlib.Core.List.{List, [], _∷_, _++_, map}
+use mathlib.Core.List.{List, [], _∷_, _++_, map, append-nil, append-assoc}
 use mathlib.Core.Path.{_≡_, refl, sym, ap, subst, _∙_}
 use lib.Dec.{T, eqb, lit<}
 use lib.ListN.{length, take, drop, getD, replicate, length-append, take-append-drop, drop-of-length-le}
 use lib.Seq.{drop-cons, drop-drop, take-append-seam, take-at}
-use borrow.Author.Tests.{eq-eqb, ne-eqb, lt-ltb, not-true}
+use borrow.Author.Tests.{eq-eqb, ne-eqb, lt-ltb, lt-leb, not-true}
 use Rattle.encoding.specs.Ranges.{AllBytes}
-use Rattle.encoding.proofs.Promises.{cases, and-left, and-right, big-below}
-use Rattle.report.specs.Hex.{isBlank}
+use Rattle.logic.proofs.Promises.{cases, and-left, and-right}
+use Rattle.encoding.proofs.Promises.{big-below, length-big, bytes-of-big}
+use Rattle.hexadecimal.specs.Hex.{isBlank}
+use Rattle.isa.specs.Classes.{classOf, kind, kind-unsupported}
 use Rattle.isa.specs.Decode.{operandBytes, operand, next}
 use Rattle.isa.specs.Starts.{startsFrom}
 use Rattle.isa.proofs.Promises.{operands-most, by-starts, from-end, from-next}
-use Rattle.report.proofs.Promises.{append-nil, append-assoc}
-use Rattle.listing.specs.Names.{nameOf, opcodeOf}
-use Rattle.words.specs.Words.{leading, isInWord, Word, firstWord, behind}
-use Rattle.words.specs.Numbers.{isDigit, limited, numberIn}
-use Rattle.words.specs.declared.numbers.Number.the-variants.{Value}
-use Rattle.words.proofs.Promises.{truth, all, stops, both, all-append, all-leading}
-use Rattle.words.proofs.Promises.{limited-value, unsigned-all}
-use Rattle.words.proofs.Promises.{first-word, last-blanks}
-use Rattle.listing.specs.Numbers.{decimal, signed, negated, signedOf}
-use Rattle.listing.specs.Text.{aligned, operandText, textOf, textAt, isInstruction}
-use Rattle.listing.specs.Line.{operandsOf, byWord, ended, byNumber, operandBy, fromOperand, byOpcode, nameBy, fromName, byOffset, lineBy, readLine, lineBytes}
+use Rattle.text_buffer.proofs.Promises.{decimal-some}
+use Rattle.instruction_text.specs.Names.{nameOf, opcodeOf}
+use Rattle.line_words.specs.Words.{isInWord, Word, firstWord, behind}
+use Rattle.line_words.specs.Numbers.{isDigit}
+use Rattle.line_words.specs.declared.numbers.Number.the-variants.{Value}
+use Rattle.line_words.proofs.Promises.{truth, all, stops, both, all-append, first-word, last-blanks, decimal-digits, decimal-back}
+use Rattle.text_buffer.specs.Decimal.{decimal}
+use Rattle.listing.specs.Numbers.{negated, signedNumber}
+use Rattle.instruction_text.specs.Text.{aligned, signedText, operandText, textOf, textAt, isInstruction}
+use Rattle.listing.specs.Line.{operandsOf, byWord, lineEnded, operandNumber, operandBy, fromOperand, byOpcode, nameBy, fromName, byOffset, lineBy, readLine, lineBytes}
 use Rattle.listing.specs.Meant.{headings, isHeading, isNot, before, beforeComment, meant}
-use Rattle.listing.specs.Listing.{listingFrom, listing, allInstructions, bytes, afterBytes, thenLines, readLines, joined, onto, linesOf, listingText, readText}
-use Rattle.listing.specs.declared.reading.Line.{Line}
-use Rattle.listing.specs.declared.reading.Line.the-variants.{Instruction}
-use Rattle.listing.proofs.BigBytes.{length-big, bytes-of-big}
-use Rattle.listing.proofs.Decimals.{decimal-value, decimal-digits, decimal-some}
+use Rattle.listing.specs.Listing.{listingFrom, listing, allInstructions, bytes, afterBytes, thenLines, readLines, joinedLines, onto, linesOf, listingText, readText}
+use Rattle.listing.specs.declared.reading.ListingLine.{ListingLine}
+use Rattle.listing.specs.declared.reading.ListingLine.the-variants.{Instruction}
 use Rattle.listing.proofs.Numbering.{digit-range, negated-value, signed-minus, signed-plain}
-use Rattle.listing.proofs.Opcodes.{isPlain, GoodName, good-name}
-use Rattle.listing.proofs.Texting.{signed-low, signed-high, operand-none, operand-some, Instructed, instructed, rowText, row-parts, text-parts}
+use Rattle.listing.proofs.Plain.{isPlain, GoodName, good-name}
+use Rattle.instruction_text.proofs.Promises.{signed-low, signed-high, operand-none, operand-some, Instructed, instructed, rowText, row-parts, text-parts}
 
 -- ---- digits are in a word
 digit-in-word : (c : ℕ) → T (isDigit 10 c) → T (isInWord c)
@@ -67,28 +66,22 @@ first-digit [] t h = absurd (omega (arith, h))
 first-digit (c ∷ w) t h = truth (isDigit 10 c) (and-left (isDigit 10 c) (all (isDigit 10) w) t)
 
 -- ---- a number is read back
-unsigned-back : (n : ℕ) → n < 2 ^ 64 → numberIn 10 (decimal n) ≡ Value n
-unsigned-back n h =
-    let w = decimal n in
-    let l : leading (isDigit 10) w ≡ length w = ap (leading (isDigit 10)) (sym (append-nil w)) ∙ all-leading (isDigit 10) w [] (decimal-digits n) tt in
-    sym (unsigned-all 10 w (leading (isDigit 10) w) refl (λ z. omega (arith, z, l, decimal-some n)) (omega (arith, l))) ∙ ap limited (decimal-value n) ∙ sym (limited-value n h)
-
-number-low : (v : ℕ) → v < 2 ^ 63 → signedOf (signed v) ≡ Value v
+number-low : (v : ℕ) → v < 2 ^ 63 → signedNumber (signedText v) ≡ Value v
 number-low v h =
     let f = digit-range (getD (decimal v) 0 0) (first-digit (decimal v) (decimal-digits v) (decimal-some v)) in
-    ap signedOf (sym (signed-low v h)) ∙ sym (signed-plain (decimal v) (λ z. omega (arith, z, f .0))) ∙ unsigned-back v (omega (arith, h))
+    ap signedNumber (sym (signed-low v h)) ∙ sym (signed-plain (decimal v) (λ z. omega (arith, z, f .0))) ∙ decimal-back v (omega (arith, h))
 
-number-high : (v : ℕ) → 2 ^ 63 ≤ v → v < 2 ^ 64 → signedOf (signed v) ≡ Value v
+number-high : (v : ℕ) → 2 ^ 63 ≤ v → v < 2 ^ 64 → signedNumber (signedText v) ≡ Value v
 number-high v g h =
     let d = 18446744073709551615 - v + 1 in
     let e : 18446744073709551615 - d + 1 ≡ v = omega arith in
-    ap signedOf (sym (signed-high v g h)) ∙ sym (signed-minus (45 ∷ decimal d) refl) ∙ ap negated (unsigned-back d (omega arith))
+    ap signedNumber (sym (signed-high v g h)) ∙ sym (signed-minus (45 ∷ decimal d) refl) ∙ ap negated (decimal-back d (omega arith))
     ∙ sym (negated-value d (λ z. omega (arith, z)) (omega arith)) ∙ ap Value e
 
-number-back : (v : ℕ) → v < 2 ^ 64 → signedOf (signed v) ≡ Value v
+number-back : (v : ℕ) → v < 2 ^ 64 → signedNumber (signedText v) ≡ Value v
 number-back v h = cases v (2 ^ 63) (number-low v) (λ g. number-high v g h)
 
-signed-word : (v : ℕ) → v < 2 ^ 64 → T (all isInWord (signed v))
+signed-word : (v : ℕ) → v < 2 ^ 64 → T (all isInWord (signedText v))
 unfolding isInWord isBlank
 signed-word v h =
     cases v (2 ^ 63)
@@ -97,17 +90,17 @@ signed-word v h =
     let d = 18446744073709551615 - v + 1 in
     subst (λ (w : List ℕ). T (all isInWord w)) (signed-high v g h) (all-in-word (decimal d) (decimal-digits d)))
 
-signed-some : (v : ℕ) → v < 2 ^ 64 → 0 < length (signed v)
+signed-some : (v : ℕ) → v < 2 ^ 64 → 0 < length (signedText v)
 signed-some v h =
     cases v (2 ^ 63)
     (λ l. omega (arith, ap length (signed-low v l), decimal-some v))
     (λ g. omega (arith, ap length (signed-high v g h)))
 
 -- ---- a word, or none
-by-some : (w : Word) (a b : Line) → 0 < length (w .bytes) → byWord w a b ≡ b
+by-some : (w : Word) (a b : ListingLine) → 0 < length (w .bytes) → byWord w a b ≡ b
 by-some w a b h = rw (ne-eqb (length (w .bytes)) 0 (λ z. omega (arith, z, h)))
 
-by-none : (w : Word) (a b : Line) → length (w .bytes) ≡ 0 → byWord w a b ≡ a
+by-none : (w : Word) (a b : ListingLine) → length (w .bytes) ≡ 0 → byWord w a b ≡ a
 by-none w a b h = rw (eq-eqb (length (w .bytes)) 0 h)
 
 blank-stops : (r : List ℕ) → T (all isBlank r) → T (stops isInWord r)
@@ -122,17 +115,17 @@ spaces (suc n) = spaces n
 
 -- ---- a line that ends with the blanks r: its end, and the operand before it
 module _ (r : List ℕ) (blank : T (all isBlank r)) where
-  ended-back : (op count v p : ℕ) → ended op count v p r ≡ Instruction op count v
-  unfolding ended
+  ended-back : (op count v p : ℕ) → lineEnded op count v p r ≡ Instruction op count v
+  unfolding lineEnded
   ended-back op count v p = by-none (firstWord p r) (Instruction op count v) _ (last-blanks p r blank)
 
-  operand-back : (op count v p : ℕ) → v < 2 ^ 64 → v < 256 ^ count → fromOperand op count p ((32 ∷ []) ++ (signed v ++ r)) ≡ Instruction op count v
+  operand-back : (op count v p : ℕ) → v < 2 ^ 64 → v < 256 ^ count → fromOperand op count p ((32 ∷ []) ++ (signedText v ++ r)) ≡ Instruction op count v
   unfolding fromOperand isBlank
   operand-back op count v p h l =
-      let w : Word = record { column = p + 1; bytes = signed v; rest = r } in
-      let f = first-word p (32 ∷ []) (signed v) r tt (signed-word v h) (not-blank (signed v) (signed-word v h)) (signed-some v h) (blank-stops r blank) in
-      ap (operandBy op count) f ∙ by-some w _ (byNumber op count w (signedOf (signed v))) (signed-some v h)
-      ∙ ap (byNumber op count w) (number-back v h) ∙ rw (lt-ltb v (256 ^ count) l) (ended-back op count v (behind w))
+      let w : Word = record { column = p + 1; bytes = signedText v; rest = r } in
+      let f = first-word p (32 ∷ []) (signedText v) r tt (signed-word v h) (not-blank (signedText v) (signed-word v h)) (signed-some v h) (blank-stops r blank) in
+      ap (operandBy op count) f ∙ by-some w _ (operandNumber op count w (signedNumber (signedText v))) (signed-some v h)
+      ∙ ap (operandNumber op count w) (number-back v h) ∙ rw (lt-ltb v (256 ^ count) l) (ended-back op count v (behind w))
 
   -- ---- the line from the name on
   abbrev tail : ℕ → ℕ → List ℕ
@@ -141,7 +134,7 @@ module _ (r : List ℕ) (blank : T (all isBlank r)) where
   tail-none : (count v : ℕ) → count ≡ 0 → r ≡ tail count v
   tail-none count v h = ap (λ (l : List ℕ). l ++ r) (operand-none count v h)
 
-  tail-some : (count v : ℕ) → (count ≡ 0 → ⊥) → (32 ∷ []) ++ (signed v ++ r) ≡ tail count v
+  tail-some : (count v : ℕ) → (count ≡ 0 → ⊥) → (32 ∷ []) ++ (signedText v ++ r) ≡ tail count v
   tail-some count v h = ap (λ (l : List ℕ). l ++ r) (operand-some count v h)
 
   tail-stops : (count v : ℕ) → T (stops isInWord (tail count v))
@@ -152,7 +145,7 @@ module _ (r : List ℕ) (blank : T (all isBlank r)) where
       (λ l. subst (λ (m : List ℕ). T (stops isInWord m)) (tail-none count v (omega (arith, l))) (blank-stops r blank))
 
   module _ (op count v : ℕ) (good : GoodName op) (is : count ≡ operandsOf op) (low : v < 2 ^ 64) (fits : v < 256 ^ count) where
-    rest-back : (p : ℕ) → cond (eqb count 0) (ended op 0 0 p (tail count v)) (fromOperand op count p (tail count v)) ≡ Instruction op count v
+    rest-back : (p : ℕ) → cond (eqb count 0) (lineEnded op 0 0 p (tail count v)) (fromOperand op count p (tail count v)) ≡ Instruction op count v
     rest-back p =
         cases 0 count
         (λ g.
@@ -162,7 +155,7 @@ module _ (r : List ℕ) (blank : T (all isBlank r)) where
         let z : count ≡ 0 = omega (arith, l) in
         let o : v < 256 ^ 0 = rw z at fits in
         let y : v ≡ 0 = omega (arith, o) in
-        rw (eq-eqb count 0 z) (ap (ended op 0 0 p) (sym (tail-none count v z)) ∙ ended-back op 0 0 p ∙ ap (λ (x : ℕ). Instruction op x 0) (sym z) ∙ ap (Instruction op count) (sym y)))
+        rw (eq-eqb count 0 z) (ap (lineEnded op 0 0 p) (sym (tail-none count v z)) ∙ ended-back op 0 0 p ∙ ap (λ (x : ℕ). Instruction op x 0) (sym z) ∙ ap (Instruction op count) (sym y)))
 
     name-back : (p : ℕ) → fromName p ((32 ∷ 32 ∷ []) ++ (nameOf op ++ tail count v)) ≡ Instruction op count v
     unfolding fromName isBlank
@@ -170,7 +163,7 @@ module _ (r : List ℕ) (blank : T (all isBlank r)) where
         let w : Word = record { column = p + 2; bytes = nameOf op; rest = tail count v } in
         let f = first-word p (32 ∷ 32 ∷ []) (nameOf op) (tail count v) tt (good .word) (not-blank (nameOf op) (good .word)) (good .some) (tail-stops count v) in
         ap nameBy f ∙ by-some w _ (byOpcode (opcodeOf (nameOf op)) w) (good .some) ∙ ap (λ (x : ℕ). byOpcode x w) (good .back)
-        ∙ rw (ne-eqb op 53 (λ z. omega (arith, z, good .low)), ← is) (rest-back (behind w))
+        ∙ rw (lt-leb (kind (classOf op)) kind-unsupported (good .supported), ← is) (rest-back (behind w))
 
     -- ---- the whole line
     pub line-back : (at : ℕ) → at < 2 ^ 64 → readLine at (rowText at op count v ++ r) ≡ Instruction op count v
@@ -184,7 +177,7 @@ module _ (r : List ℕ) (blank : T (all isBlank r)) where
         let line = (b ++ d) ++ s in
         let f : firstWord 0 line ≡ w = ap (firstWord 0) (append-assoc b d s) ∙ first-word 0 b d s (spaces (3 - length d)) t (not-blank d t) (decimal-some at) tt in
         ap (readLine at) (row-parts at op count v r) ∙ ap (lineBy at line) f ∙ by-some w _ _ (decimal-some at)
-        ∙ rw (first-digit d (decimal-digits at) (decimal-some at)) (ap (byOffset at w) (unsigned-back at h) ∙ rw (eq-eqb at at refl) (name-back (behind w)))
+        ∙ rw (first-digit d (decimal-digits at) (decimal-some at)) (ap (byOffset at w) (decimal-back at h) ∙ rw (eq-eqb at at refl) (name-back (behind w)))
 
 -- ---- plain characters: neither a line feed nor #
 digit-plain : (c : ℕ) → T (isDigit 10 c) → T (isPlain c)
@@ -199,7 +192,7 @@ pub plain-spaces : (n : ℕ) → T (all isPlain (replicate n 32))
 plain-spaces zero = tt
 plain-spaces (suc n) = plain-spaces n
 
-plain-signed : (v : ℕ) → v < 2 ^ 64 → T (all isPlain (signed v))
+plain-signed : (v : ℕ) → v < 2 ^ 64 → T (all isPlain (signedText v))
 plain-signed v h =
     cases v (2 ^ 63)
     (λ l. subst (λ (w : List ℕ). T (all isPlain w)) (signed-low v l) (plain-digits v))
@@ -347,7 +340,7 @@ module _ (e : List ℕ) (low : AllBytes e) where
       let y : i + length d ≡ next e i = omega (arith, length-big n (operand e i)) in
       let q : i + (1 + n) ≡ next e i = omega arith in
       let x : drop (1 + n) (drop i e) ≡ drop (next e i) e = drop-drop (1 + n) i e ∙ ap (λ (j : ℕ). drop j e) q in
-      ap (λ (k : Line). thenLines m k (λ a. afterBytes a (readLines (m + 1) (i + length a) ls))) s
+      ap (λ (k : ListingLine). thenLines m k (λ a. afterBytes a (readLines (m + 1) (i + length a) ls))) s
       ∙ ap (λ (j : ℕ). afterBytes d (readLines (m + 1) j ls)) y
       ∙ ap (afterBytes d) g
       ∙ ap bytes (ap (λ (k : List ℕ). k ++ drop (next e i) e) z ∙ ap (λ (k : List ℕ). take (1 + n) (drop i e) ++ k) (sym x) ∙ take-append-drop (1 + n) (drop i e))
@@ -365,7 +358,7 @@ module _ (e : List ℕ) (low : AllBytes e) where
   listing-back = by-starts e Back back-end back-next
 
   -- ---- a listing as one text: no line has a line feed but at its end
-  lines-back : (ks : List ℕ) → T (allInstructions e ks) → linesOf (joined (map (textAt e) ks)) ≡ map (textAt e) ks
+  lines-back : (ks : List ℕ) → T (allInstructions e ks) → linesOf (joinedLines (map (textAt e) ks)) ≡ map (textAt e) ks
   unfolding linesOf
   lines-back [] t = refl
   lines-back (k ∷ ks) t =
@@ -373,7 +366,7 @@ module _ (e : List ℕ) (low : AllBytes e) where
       let f = rowText k (getD e k 0) (operandBytes e k) (operand e k) in
       let p = plain-row k (getD e k 0) (operandBytes e k) (operand e k) (good-name (getD e k 0) (i .supported)) (operand-low k i) in
       let q : f ++ (10 ∷ []) ≡ textAt e k = text-parts e k in
-      let r = joined (map (textAt e) ks) in
+      let r = joinedLines (map (textAt e) ks) in
       ap (λ (l : List ℕ). linesOf (l ++ r)) (sym q) ∙ line-divided f r (feedless f p) ∙ ap (λ (l : List ℕ). l ∷ linesOf r) q
       ∙ ap (λ (ls : List (List ℕ)). textAt e k ∷ ls) (lines-back ks (and-right (isInstruction e k) (allInstructions e ks) t))
 

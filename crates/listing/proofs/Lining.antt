@@ -7,34 +7,37 @@ use mathlib.Core.Path.{_≡_, refl, sym, ap, _∙_}
 use lib.Dec.{T, eqb, ltb}
 use lib.ListN.{length, take, drop, set, getD, length-set}
 use lib.Seq.{getD-take, getD-drop}
-use borrow.Author.Tests.{eq-eqb, ne-eqb, lt-ltb, le-ltb, ltb-true}
+use borrow.Author.Tests.{eq-eqb, ne-eqb, lt-ltb, le-ltb, le-leb, lt-leb, ltb-true}
+use Rattle.encoding.specs.BigEndian.{bigBytes}
 use Rattle.encoding.specs.Written.{writtenAt}
-use Rattle.encoding.proofs.Promises.{up-to, written-store, written-more, written-length}
-use Rattle.encoding.specs.Tried.{upTo}
-use Rattle.isa.specs.Classes.{opcodes, classOf}
-use Rattle.listing.specs.Names.{opcodeOf}
-use Rattle.words.specs.Words.{Word, firstWord, behind, IsAt}
-use Rattle.words.specs.Numbers.{isDigit, numberIn}
-use Rattle.listing.specs.Numbers.{signedOf, bigBytes, isWidth}
-use Rattle.listing.specs.Line.{operandsOf, ended, byNumber, fromOperand, byOpcode, fromName, byOffset, readLine, readAnswer, readLeft}
-use Rattle.words.specs.declared.Place.{Place}
-use Rattle.words.specs.declared.numbers.Number.{Number}
-use Rattle.words.specs.declared.numbers.Number.the-variants.{Value, Large, Not}
-use Rattle.listing.specs.declared.reading.Fault.the-variants.{WrongOffset, NoName, UnknownName, NoOperand, NotNumber, TooLarge, Trailing}
-use Rattle.listing.specs.declared.reading.Line.{Line}
-use Rattle.listing.specs.declared.reading.Line.the-variants.{Nothing, Instruction, Wrong}
-use Rattle.listing.specs.declared.reading.Read.the-variants.{Bytes, NoRoom}
-use Rattle.words.proofs.Promises.{no-word, a-word}
+use Rattle.logic.proofs.Promises.{up-to}
+use Rattle.encoding.proofs.Promises.{written-store, written-more, written-length}
+use Rattle.logic.specs.Tests.{upTo}
+use Rattle.isa.specs.Classes.{opcodes, classOf, kind, kind-unsupported}
+use Rattle.isa.proofs.Promises.{known-low}
+use Rattle.instruction_text.specs.Names.{opcodeOf}
+use Rattle.line_words.specs.Words.{Word, firstWord, behind, IsAt}
+use Rattle.line_words.specs.Numbers.{isDigit, numberIn}
+use Rattle.listing.specs.Numbers.{signedNumber, isWidth}
+use Rattle.listing.specs.Line.{operandsOf, lineEnded, operandNumber, fromOperand, byOpcode, fromName, byOffset, readLine, readAnswer, readLeft}
+use Rattle.line_words.specs.declared.Place.{Place}
+use Rattle.line_words.specs.declared.numbers.Number.{Number}
+use Rattle.line_words.specs.declared.numbers.Number.the-variants.{Value, Large, Not}
+use Rattle.listing.specs.declared.reading.LineFault.the-variants.{WrongOffset, NoName, UnknownName, NoOperand, NotNumber, TooLarge, Trailing}
+use Rattle.listing.specs.declared.reading.ListingLine.{ListingLine}
+use Rattle.listing.specs.declared.reading.ListingLine.the-variants.{Nothing, Instruction, Wrong}
+use Rattle.listing.specs.declared.reading.LineRead.the-variants.{Bytes, NoRoom}
+use Rattle.line_words.proofs.Promises.{no-word, a-word}
 
 -- ---- the line goes on behind a word as the code goes on
-goes-on : {line : List ℕ} {r : Place} {w : Word} → IsAt line r w → (f : ℕ → List ℕ → Line) → f (r .end) (drop (r .end) line) ≡ f (behind w) (w .rest)
+goes-on : {line : List ℕ} {r : Place} {w : Word} → IsAt line r w → (f : ℕ → List ℕ → ListingLine) → f (r .end) (drop (r .end) line) ≡ f (behind w) (w .rest)
 goes-on {line} {r} {w} i f = ap (λ (j : ℕ). f j (drop (r .end) line)) (i .end-is) ∙ ap (f (behind w)) (i .rest-is)
 
 -- ---- the answers at one word
 module _ {line : List ℕ} {r : Place} (p : ℕ) (l : List ℕ) (i : IsAt line r (firstWord p l)) where
   module _ (none : r .start ≡ r .end) where
-    pub ends-here : (op count v : ℕ) → Instruction op count v ≡ ended op count v p l
-    unfolding ended
+    pub ends-here : (op count v : ℕ) → Instruction op count v ≡ lineEnded op count v p l
+    unfolding lineEnded
     ends-here op count v = rw (no-word i none)
 
     pub operand-none : (op count : ℕ) → Wrong NoOperand (r .start) ≡ fromOperand op count p l
@@ -46,31 +49,31 @@ module _ {line : List ℕ} {r : Place} (p : ℕ) (l : List ℕ) (i : IsAt line r
     name-none = rw (no-word i none) (ap (Wrong NoName) (i .start-is))
 
   module _ (some : r .start ≡ r .end → ⊥) where
-    pub ends-later : (op count v : ℕ) → Wrong Trailing (r .start) ≡ ended op count v p l
-    unfolding ended
+    pub ends-later : (op count v : ℕ) → Wrong Trailing (r .start) ≡ lineEnded op count v p l
+    unfolding lineEnded
     ends-later op count v = rw (a-word i some) (ap (Wrong Trailing) (i .start-is))
 
     -- an operand, which is the number x
-    module _ (op count : ℕ) (x : Number) (is : x ≡ signedOf (take (r .end - r .start) (drop (r .start) line))) where
-      by-operand : byNumber op count (firstWord p l) x ≡ fromOperand op count p l
+    module _ (op count : ℕ) (x : Number) (is : x ≡ signedNumber (take (r .end - r .start) (drop (r .start) line))) where
+      by-operand : operandNumber op count (firstWord p l) x ≡ fromOperand op count p l
       unfolding fromOperand
-      by-operand = rw (a-word i some) (ap (byNumber op count (firstWord p l)) (is ∙ ap signedOf (i .bytes-is)))
+      by-operand = rw (a-word i some) (ap (operandNumber op count (firstWord p l)) (is ∙ ap signedNumber (i .bytes-is)))
 
       pub operand-not : x ≡ Not → Wrong NotNumber (r .start) ≡ fromOperand op count p l
-      operand-not h = ap (Wrong NotNumber) (i .start-is) ∙ ap (byNumber op count (firstWord p l)) (sym h) ∙ by-operand
+      operand-not h = ap (Wrong NotNumber) (i .start-is) ∙ ap (operandNumber op count (firstWord p l)) (sym h) ∙ by-operand
 
       pub operand-large : x ≡ Large → Wrong TooLarge (r .start) ≡ fromOperand op count p l
-      operand-large h = ap (Wrong TooLarge) (i .start-is) ∙ ap (byNumber op count (firstWord p l)) (sym h) ∙ by-operand
+      operand-large h = ap (Wrong TooLarge) (i .start-is) ∙ ap (operandNumber op count (firstWord p l)) (sym h) ∙ by-operand
 
       module _ (v : ℕ) (h : x ≡ Value v) (b : Bool) (fits : b ≡ ltb v (256 ^ count)) where
-        by-value : cond b (ended op count v (behind (firstWord p l)) (firstWord p l .rest)) (Wrong TooLarge (firstWord p l .column)) ≡ fromOperand op count p l
-        by-value = rw fits (ap (byNumber op count (firstWord p l)) (sym h) ∙ by-operand)
+        by-value : cond b (lineEnded op count v (behind (firstWord p l)) (firstWord p l .rest)) (Wrong TooLarge (firstWord p l .column)) ≡ fromOperand op count p l
+        by-value = rw fits (ap (operandNumber op count (firstWord p l)) (sym h) ∙ by-operand)
 
         pub operand-wide : b ≡ false → Wrong TooLarge (r .start) ≡ fromOperand op count p l
         operand-wide f = ap (Wrong TooLarge) (i .start-is) ∙ (rw f at by-value)
 
-        pub operand-fits : b ≡ true → ended op count v (r .end) (drop (r .end) line) ≡ fromOperand op count p l
-        operand-fits t = goes-on i (ended op count v) ∙ (rw t at by-value)
+        pub operand-fits : b ≡ true → lineEnded op count v (r .end) (drop (r .end) line) ≡ fromOperand op count p l
+        operand-fits t = goes-on i (lineEnded op count v) ∙ (rw t at by-value)
 
     -- a name, which is that of op
     module _ (op : ℕ) (is : op ≡ opcodeOf (take (r .end - r .start) (drop (r .start) line))) where
@@ -78,15 +81,15 @@ module _ {line : List ℕ} {r : Place} (p : ℕ) (l : List ℕ) (i : IsAt line r
       unfolding fromName
       by-name = rw (a-word i some) (ap (λ (x : ℕ). byOpcode x (firstWord p l)) (is ∙ ap opcodeOf (i .bytes-is)))
 
-      pub name-unknown : op ≡ 53 → Wrong UnknownName (r .start) ≡ fromName p l
-      name-unknown h = ap (Wrong UnknownName) (i .start-is) ∙ (rw (eq-eqb op 53 h) at by-name)
+      pub name-unknown : kind (classOf op) ≤ kind-unsupported → Wrong UnknownName (r .start) ≡ fromName p l
+      name-unknown h = ap (Wrong UnknownName) (i .start-is) ∙ (rw (le-leb (kind (classOf op)) kind-unsupported h) at by-name)
 
-      module _ (known : op ≡ 53 → ⊥) (count : ℕ) (row-is : count ≡ operandsOf op) where
-        by-row : cond (eqb count 0) (ended op 0 0 (behind (firstWord p l)) (firstWord p l .rest)) (fromOperand op count (behind (firstWord p l)) (firstWord p l .rest)) ≡ fromName p l
-        by-row = rw row-is (rw (ne-eqb op 53 known) at by-name)
+      module _ (supported : kind-unsupported < kind (classOf op)) (count : ℕ) (row-is : count ≡ operandsOf op) where
+        by-row : cond (eqb count 0) (lineEnded op 0 0 (behind (firstWord p l)) (firstWord p l .rest)) (fromOperand op count (behind (firstWord p l)) (firstWord p l .rest)) ≡ fromName p l
+        by-row = rw row-is (rw (lt-leb (kind (classOf op)) kind-unsupported supported) at by-name)
 
-        pub name-alone : count ≡ 0 → ended op 0 0 (r .end) (drop (r .end) line) ≡ fromName p l
-        name-alone h = goes-on i (ended op 0 0) ∙ (rw (eq-eqb count 0 h) at by-row)
+        pub name-alone : count ≡ 0 → lineEnded op 0 0 (r .end) (drop (r .end) line) ≡ fromName p l
+        name-alone h = goes-on i (lineEnded op 0 0) ∙ (rw (eq-eqb count 0 h) at by-row)
 
         pub name-operand : (count ≡ 0 → ⊥) → fromOperand op count (r .end) (drop (r .end) line) ≡ fromName p l
         name-operand h = goes-on i (fromOperand op count) ∙ (rw (ne-eqb count 0 h) at by-row)
@@ -139,18 +142,18 @@ operands-width : T (upTo 53 (λ op. cond (eqb (operandsOf op) 0) true (isWidth (
 unfolding opcodes classOf isWidth
 operands-width = tt
 
-pub width-of : (op count : ℕ) → op < 53 → count ≡ operandsOf op → (count ≡ 0 → ⊥) → T (isWidth count)
+pub width-of : (op count : ℕ) → kind-unsupported < kind (classOf op) → count ≡ operandsOf op → (count ≡ 0 → ⊥) → T (isWidth count)
 width-of op count h e n =
-    let t = up-to 53 (λ op. cond (eqb (operandsOf op) 0) true (isWidth (operandsOf op))) operands-width op h in
+    let t = up-to 53 (λ op. cond (eqb (operandsOf op) 0) true (isWidth (operandsOf op))) operands-width op (known-low op (omega (arith, h))) in
     rw e (rw (ne-eqb (operandsOf op) 0 (λ z. n (e ∙ z))) at t)
 
 -- ---- `store`
 module _ (op count v at : ℕ) (o : List ℕ) where
-  abbrev said : Line
+  abbrev said : ListingLine
   said = Instruction op count v
 
-  pub no-room : length o ≤ at + count → (NoRoom ≡ readAnswer said at o) × (o ≡ readLeft said at o)
-  no-room h = let e = le-ltb (at + count) (length o) h in (rw e, rw e)
+  pub buffer-full : length o ≤ at + count → (NoRoom ≡ readAnswer said at o) × (o ≡ readLeft said at o)
+  buffer-full h = let e = le-ltb (at + count) (length o) h in (rw e, rw e)
 
   pub stored-length : (m : List ℕ) → m ≡ writtenAt (set o at op) (at + 1) (bigBytes count v) → length m ≡ length o
   stored-length m q = ap length q ∙ written-length (set o at op) (at + 1) (bigBytes count v) ∙ length-set o at op
@@ -161,19 +164,19 @@ module _ (op count v at : ℕ) (o : List ℕ) where
       (rw e, rw e (q ∙ ap (λ (b : List ℕ). writtenAt b (at + 1) (bigBytes count v)) (written-store o at op) ∙ written-more o at (op ∷ []) (bigBytes count v)))
 
 -- ---- `read_instruction`, by what the line says
-module _ (l m : Line) (at : ℕ) (o : List ℕ) (is : l ≡ m) where
+module _ (l m : ListingLine) (at : ℕ) (o : List ℕ) (is : l ≡ m) where
   pub answer-by : readAnswer l at o ≡ readAnswer m at o
-  answer-by = ap (λ (x : Line). readAnswer x at o) is
+  answer-by = ap (λ (x : ListingLine). readAnswer x at o) is
 
   pub left-by : readLeft l at o ≡ readLeft m at o
-  left-by = ap (λ (x : Line). readLeft x at o) is
+  left-by = ap (λ (x : ListingLine). readLeft x at o) is
 
 -- ---- the bytes read are within the buffer
 within-if : (b : Bool) (at count k : ℕ) → (b ≡ true → at + count < k) → (n : ℕ) → Bytes n ≡ cond b (Bytes (count + 1)) NoRoom → at + n ≤ k
 within-if true at count k f n e = let q : n ≡ count + 1 = cc in omega (arith, q, f refl)
 within-if false at count k f n e = absurd (let z : _≡_ {A = ℕ} 0 1 = cc in omega arith)
 
-pub read-within : (l : Line) (at : ℕ) (o : List ℕ) (n : ℕ) → Bytes n ≡ readAnswer l at o → at ≤ length o → at + n ≤ length o
+pub read-within : (l : ListingLine) (at : ℕ) (o : List ℕ) (n : ℕ) → Bytes n ≡ readAnswer l at o → at ≤ length o → at + n ≤ length o
 read-within Nothing at o n e h = let q : n ≡ 0 = cc in omega (arith, q, h)
 read-within (Instruction op count v) at o n e h = within-if (ltb (at + count) (length o)) at count (length o) (ltb-true (at + count) (length o)) n e
 read-within (Wrong f c) at o n e h = absurd (let z : _≡_ {A = ℕ} 0 1 = cc in omega arith)

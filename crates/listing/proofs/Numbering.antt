@@ -7,11 +7,11 @@ use mathlib.Core.Path.{_≡_, refl, sym, ap, _∙_}
 use lib.Dec.{T, ltb, leb, eqb, eqb→eq}
 use lib.ListN.{drop, getD}
 use borrow.Author.Tests.{lt-ltb, le-leb, lt-leb, eq-eqb, ne-eqb, leb-true, ltb-true}
-use Rattle.encoding.proofs.Promises.{no-true}
-use Rattle.report.specs.Hex.{isBetween, digitOf}
-use Rattle.words.specs.Numbers.{isDigit, numberIn}
-use Rattle.words.specs.declared.numbers.Number.the-variants.{Value, Large}
-use Rattle.listing.specs.Numbers.{negated, signedOf, isWidth}
+use Rattle.logic.proofs.Promises.{no-true}
+use Rattle.hexadecimal.specs.Hex.{isBetween, digitOf}
+use Rattle.line_words.specs.Numbers.{isDigit, numberIn}
+use Rattle.line_words.specs.declared.numbers.Number.the-variants.{Value, Large}
+use Rattle.listing.specs.Numbers.{negated, signedNumber, isWidth}
 
 -- ---- a decimal digit is one of the characters from `0` to `9`
 between : (a b c : ℕ) (x y : Bool) → leb a c ≡ x → leb c b ≡ y → cond x y false ≡ true → (a ≤ c) × (c ≤ b)
@@ -56,12 +56,12 @@ module _ (d : ℕ) where
     negated-large h = rw (ne-eqb d 0 some, lt-leb d (2 ^ 63) h)
 
 -- ---- `signed`
-pub signed-minus : (w : List ℕ) → getD w 0 0 ≡ 45 → negated (numberIn 10 (drop 1 w)) ≡ signedOf w
-unfolding signedOf
+pub signed-minus : (w : List ℕ) → getD w 0 0 ≡ 45 → negated (numberIn 10 (drop 1 w)) ≡ signedNumber w
+unfolding signedNumber
 signed-minus w h = rw (eq-eqb (getD w 0 0) 45 h)
 
-pub signed-plain : (w : List ℕ) → (getD w 0 0 ≡ 45 → ⊥) → numberIn 10 w ≡ signedOf w
-unfolding signedOf
+pub signed-plain : (w : List ℕ) → (getD w 0 0 ≡ 45 → ⊥) → numberIn 10 w ≡ signedNumber w
+unfolding signedNumber
 signed-plain w h = rw (ne-eqb (getD w 0 0) 45 h)
 
 -- ---- `fits`

@@ -1,4 +1,5 @@
--- What `read_listing` answers and leaves, where the text has no fault and the buffer has room; and what its answers tell. Assumes nothing.
+-- What `read_listing` answers and leaves, where the text has no fault and the buffer has room; and what its answers
+-- tell. Assumes nothing.
 use Prim.Native.Nat.{ℕ, _+_, _≤_}
 use native.Mathlib.Omega.{arith}
 use mathlib.Core.Bool.{Bool, true, false, cond}
@@ -8,21 +9,20 @@ use lib.Dec.{ltb}
 use lib.ListN.{length, take, length-append}
 use borrow.Author.Tests.{lt-ltb}
 use Rattle.encoding.specs.Written.{writtenAt}
-use Rattle.encoding.proofs.Promises.{written-nothing, written-more, written-length, written-read}
+use Rattle.encoding.proofs.Promises.{written-nothing, written-more, written-length, written-read, length-big}
 use Rattle.listing.specs.Line.{lineBytes, readAnswer, readLeft}
 use Rattle.listing.specs.Meant.{meant}
 use Rattle.listing.specs.Listing.{Lines, bytes, fault, afterBytes, thenLines, readLines, linesOf, readText}
-use Rattle.listing.specs.Whole.{Outcome, afterLine, outcomeFrom, outcome}
-use Rattle.listing.specs.declared.reading.Fault.{Fault}
-use Rattle.listing.specs.declared.reading.Line.{Line}
-use Rattle.listing.specs.declared.reading.Line.the-variants.{Nothing, Instruction, Wrong}
-use Rattle.listing.specs.declared.reading.Read.the-variants.{Bytes as Read·bytes, NoRoom as Read·noRoom}
-use Rattle.listing.specs.declared.whole.Whole.{Whole}
-use Rattle.listing.specs.declared.whole.Whole.the-variants.{Bytes, NoRoom, Wrong as Whole·wrong}
-use Rattle.listing.proofs.BigBytes.{length-big}
+use Rattle.listing.specs.Whole.{ListingOutcome, afterLine, outcomeFrom, outcome}
+use Rattle.listing.specs.declared.reading.LineFault.{LineFault}
+use Rattle.listing.specs.declared.reading.ListingLine.{ListingLine}
+use Rattle.listing.specs.declared.reading.ListingLine.the-variants.{Nothing, Instruction, Wrong}
+use Rattle.listing.specs.declared.reading.LineRead.the-variants.{Bytes as LineRead·bytes, NoRoom as LineRead·noRoom}
+use Rattle.listing.specs.declared.whole.ListingRead.{ListingRead}
+use Rattle.listing.specs.declared.whole.ListingRead.the-variants.{Bytes, NoRoom, Wrong as ListingRead·wrong}
 
 -- the bytes b are written from offset i on
-abbrev written : ℕ → List ℕ → List ℕ → Outcome
+abbrev written : ℕ → List ℕ → List ℕ → ListingOutcome
 written i o b = record { answer = Bytes (i + length b); left = writtenAt o i b }
 
 written-none : (i : ℕ) (o : List ℕ) → record { answer = Bytes i; left = o } ≡ written i o []
@@ -60,7 +60,7 @@ at-least d (bytes m) b q = let w : d ++ m ≡ b = cc in omega (arith, length-app
 at-least d (fault n f c) b q = absurd (let z : _≡_ {A = ℕ} 0 1 = cc in omega arith)
 
 -- a line that says l, and the lines behind it
-right-line : (l : Line) (ls : List (List ℕ)) → Right ls → (n i : ℕ) (o b : List ℕ)
+right-line : (l : ListingLine) (ls : List (List ℕ)) → Right ls → (n i : ℕ) (o b : List ℕ)
     → thenLines n l (λ d. afterBytes d (readLines (n + 1) (i + length d) ls)) ≡ bytes b → i + length b ≤ length o
     → afterLine n (readLeft l i o) (readAnswer l i o) (λ k. outcomeFrom (n + 1) (i + k) (readLeft l i o) ls) ≡ written i o b
 right-line Nothing ls rest n i o b q h = after-right ls rest n i o [] 0 refl b q h
@@ -83,15 +83,15 @@ text-right t o b q h =
     right-lines (linesOf t) 1 0 o b q (omega arith) ∙ ap (λ (k : ℕ). record { answer = Bytes k; left = writtenAt o 0 b }) z
 
 -- ---- what an answer tells of the text: the lines x from offset i on, where the buffer may have no room
-abbrev Tells : ℕ → Whole → Lines → Type 0
+abbrev Tells : ℕ → ListingRead → Lines → Type 0
 Tells i (Bytes k) x = (b : List ℕ) × (x ≡ bytes b) × (i + length b ≡ k)
 Tells i (NoRoom n) x = Unit {0}
-Tells i (Whole·wrong n f c) x = x ≡ fault n f c
+Tells i (ListingRead·wrong n f c) x = x ≡ fault n f c
 
-tells-behind : (i : ℕ) (d : List ℕ) (w : Whole) (x : Lines) → Tells (i + length d) w x → Tells i w (afterBytes d x)
+tells-behind : (i : ℕ) (d : List ℕ) (w : ListingRead) (x : Lines) → Tells (i + length d) w x → Tells i w (afterBytes d x)
 tells-behind i d (Bytes k) x t = (d ++ t .0, ap (afterBytes d) (t .1), omega (arith, t .2, length-append d (t .0)))
 tells-behind i d (NoRoom n) x t = tt
-tells-behind i d (Whole·wrong n f c) x t = ap (afterBytes d) t
+tells-behind i d (ListingRead·wrong n f c) x t = ap (afterBytes d) t
 
 abbrev Told : List (List ℕ) → Type 0
 Told ls = (n i : ℕ) (o : List ℕ) → Tells i (outcomeFrom n i o ls .answer) (readLines n i ls)
@@ -106,11 +106,11 @@ module _ (ls : List (List ℕ)) (rest : Told ls) (n i : ℕ) (o d : List ℕ) (k
       subst (λ (j : ℕ). Tells i (outcomeFrom (n + 1) (i + j) o ls .answer) (afterBytes d behind)) size
       (tells-behind i d (outcomeFrom (n + 1) (i + length d) o ls .answer) behind (rest (n + 1) (i + length d) o))
 
-  told-bytes : (r : Bool) → Tells i (afterLine n o (cond r (Read·bytes k) Read·noRoom) (λ j. outcomeFrom (n + 1) (i + j) o ls) .answer) (afterBytes d behind)
+  told-bytes : (r : Bool) → Tells i (afterLine n o (cond r (LineRead·bytes k) LineRead·noRoom) (λ j. outcomeFrom (n + 1) (i + j) o ls) .answer) (afterBytes d behind)
   told-bytes true = told-room
   told-bytes false = tt
 
-told-line : (l : Line) (ls : List (List ℕ)) → Told ls → (n i : ℕ) (o : List ℕ)
+told-line : (l : ListingLine) (ls : List (List ℕ)) → Told ls → (n i : ℕ) (o : List ℕ)
     → Tells i (afterLine n (readLeft l i o) (readAnswer l i o) (λ k. outcomeFrom (n + 1) (i + k) (readLeft l i o) ls) .answer)
     (thenLines n l (λ d. afterBytes d (readLines (n + 1) (i + length d) ls)))
 told-line Nothing ls rest n i o = told-room ls rest n i (writtenAt o i []) [] 0 refl
@@ -125,9 +125,9 @@ told-lines [] n i o = ([], refl, omega arith)
 told-lines (l ∷ ls) n i o = told-line (meant i l) ls (told-lines ls) n i o
 
 module _ (t o : List ℕ) where
-  told-by : (w : Whole) → outcome t o .answer ≡ w → Tells 0 w (readText t)
+  told-by : (w : ListingRead) → outcome t o .answer ≡ w → Tells 0 w (readText t)
   unfolding readText outcome
-  told-by w e = subst (λ (x : Whole). Tells 0 x (readText t)) e (told-lines (linesOf t) 1 0 o)
+  told-by w e = subst (λ (x : ListingRead). Tells 0 x (readText t)) e (told-lines (linesOf t) 1 0 o)
 
   pub told-right : (k : ℕ) → outcome t o .answer ≡ Bytes k → k ≤ length o → readText t ≡ bytes (take k (outcome t o .left))
   told-right k e h =
@@ -135,7 +135,7 @@ module _ (t o : List ℕ) where
       let b = p .0 in
       let z : k ≡ length b = omega (arith, p .2) in
       let f = text-right t o b (p .1) (omega (arith, z)) in
-      p .1 ∙ ap bytes (sym (ap (λ (x : Outcome). take k (x .left)) f ∙ ap (λ (j : ℕ). take j (writtenAt o 0 b)) z ∙ written-read o 0 b (omega (arith, z))))
+      p .1 ∙ ap bytes (sym (ap (λ (x : ListingOutcome). take k (x .left)) f ∙ ap (λ (j : ℕ). take j (writtenAt o 0 b)) z ∙ written-read o 0 b (omega (arith, z))))
 
-  pub told-wrong : (n : ℕ) (f : Fault) (c : ℕ) → outcome t o .answer ≡ Whole·wrong n f c → readText t ≡ fault n f c
-  told-wrong n f c = told-by (Whole·wrong n f c)
+  pub told-wrong : (n : ℕ) (f : LineFault) (c : ℕ) → outcome t o .answer ≡ ListingRead·wrong n f c → readText t ≡ fault n f c
+  told-wrong n f c = told-by (ListingRead·wrong n f c)

@@ -5,30 +5,26 @@ use mathlib.Core.Path.{_≡_, refl, sym, ap, _∙_}
 use Prim.Native.Nat.{ℕ, _+_, _-_, _^_, _≤_, _<_}
 use lib.Dec.{T}
 use lib.ListN.{length, take, drop, replicate}
-use Rattle.io.specs.Digits.{digits, Fewest}
-use Rattle.report.specs.Hex.{isBlank}
-use Rattle.report.specs.Text.{Appends}
+use Rattle.hexadecimal.specs.Hex.{isBlank}
+use Rattle.text_buffer.specs.Decimal.{decimal}
 use Rattle.encoding.specs.Ranges.{AllBytes}
 use Rattle.encoding.specs.Written.{writtenAt}
 use Rattle.isa.specs.Classes.{kind, classOf, kind-unsupported}
 use Rattle.isa.specs.Decode.{operandBytes, next}
 use Rattle.isa.specs.Starts.{starts}
-use Rattle.listing.specs.Names.{nameOf}
-use Rattle.listing.specs.Numbers.{decimal}
-use Rattle.listing.specs.Text.{textOf, textAt, isInstruction, plainAt}
+use Rattle.instruction_text.specs.Text.{textOf, textAt, isInstruction}
+use Rattle.instruction_text.proofs.Promises.{instructed, row-parts}
 use Rattle.listing.specs.Line.{operandsOf, readLine, lineBytes}
 use Rattle.listing.specs.Meant.{isHeading, meant}
 use Rattle.listing.specs.Listing.{listing, allInstructions, bytes, fault, readLines, linesOf, listingText, readText}
 use Rattle.listing.specs.Whole.{outcome}
-use Rattle.listing.specs.declared.reading.Fault.{Fault}
-use Rattle.listing.specs.declared.reading.Line.the-variants.{Instruction}
-use Rattle.listing.specs.declared.whole.Whole.the-variants.{Bytes, Wrong}
+use Rattle.listing.specs.declared.reading.LineFault.{LineFault}
+use Rattle.listing.specs.declared.reading.ListingLine.the-variants.{Instruction}
+use Rattle.listing.specs.declared.whole.ListingRead.the-variants.{Bytes, Wrong}
 use Rattle.listing.proofs.Behind as behind
-use Rattle.listing.proofs.Decimals as decimals
 use Rattle.listing.proofs.Inverse as inverse
-use Rattle.listing.proofs.Opcodes as opcodes
+use Rattle.listing.proofs.Plain as plain
 use Rattle.listing.proofs.Outcomes as outcomes
-use Rattle.listing.proofs.Texting as texting
 -- `Feedless l`: the text l has no line feed.
 pub use Rattle.listing.proofs.Behind.{Feedless}
 
@@ -37,13 +33,13 @@ pub text-read-back : (at op v : ℕ) → at < 2 ^ 64 → kind-unsupported < kind
     → readLine at (textOf at op (operandsOf op) v) ≡ Instruction op (operandsOf op) v
 unfolding textOf isBlank
 text-read-back at op v h s f =
-    ap (readLine at) (sym (texting.row-parts at op (operandsOf op) v (10 ∷ []))) ∙ inverse.line-back (10 ∷ []) tt op (operandsOf op) v (opcodes.good-name op s) refl (inverse.word-low op v f) f at h
+    ap (readLine at) (sym (row-parts at op (operandsOf op) v (10 ∷ []))) ∙ inverse.line-back (10 ∷ []) tt op (operandsOf op) v (plain.good-name op s) refl (inverse.word-low op v f) f at h
 
 -- and so is the line a, which is that text without its line feed, with n spaces and a comment behind it
 pub row-read-back : (at op v : ℕ) → at < 2 ^ 64 → kind-unsupported < kind (classOf op) → v < 256 ^ operandsOf op
     → (a : List ℕ) → a ++ (10 ∷ []) ≡ textOf at op (operandsOf op) v
     → (n : ℕ) (t : List ℕ) → meant at (a ++ (replicate n 32 ++ (35 ∷ t))) ≡ Instruction op (operandsOf op) v
-row-read-back at op v h s f = inverse.comment-back op (operandsOf op) v (opcodes.good-name op s) refl (inverse.word-low op v f) f at h
+row-read-back at op v h s f = inverse.comment-back op (operandsOf op) v (plain.good-name op s) refl (inverse.word-low op v f) f at h
 
 -- `AllBytes` holds of every slice of bytes that is lent: the contract of `encoding::bytes_known`, `lent-bytes` on the
 -- page of the demands.
@@ -51,7 +47,7 @@ row-read-back at op v h s f = inverse.comment-back op (operandsOf op) v (opcodes
 -- the text of an instruction of an expression is read back as its bytes
 pub instruction-read-back : (e : List ℕ) → AllBytes e → (k : ℕ) → k < 2 ^ 64 → isInstruction e k ≡ true
     → lineBytes (readLine k (textAt e k)) ≡ take (1 + operandBytes e k) (drop k e)
-instruction-read-back e low k h i = ap lineBytes (inverse.instruction-back e low k (texting.instructed e k i) h) ∙ inverse.instruction-bytes e low k (texting.instructed e k i)
+instruction-read-back e low k h i = ap lineBytes (inverse.instruction-back e low k (instructed e k i) h) ∙ inverse.instruction-bytes e low k (instructed e k i)
 
 -- and the listing of an expression as the expression
 pub listing-read-back : (e : List ℕ) → AllBytes e → length e < 2 ^ 64 → T (allInstructions e (starts e)) → readLines 1 0 (listing e) ≡ bytes e
@@ -78,7 +74,7 @@ heading-then = behind.heading-then
 pub row-then : (e : List ℕ) → AllBytes e → (k : ℕ) → k < 2 ^ 64 → isInstruction e k ≡ true
     → (n : ℕ) (t : List ℕ) → Feedless t → (m : ℕ) (r : List ℕ) → readLines (m + 1) (next e k) (linesOf r) ≡ bytes (drop (next e k) e)
     → readLines m k (linesOf (take (length (textAt e k) - 1) (textAt e k) ++ replicate n 32 ++ ((35 ∷ t) ++ (10 ∷ [])) ++ r)) ≡ bytes (drop k e)
-row-then e low k h i = behind.row-then e low k h (texting.instructed e k i)
+row-then e low k h i = behind.row-then e low k h (instructed e k i)
 
 -- ---- what `read_listing` answers and leaves where the text has no fault, and the buffer has room
 pub text-outcome : (t o b : List ℕ) → readText t ≡ bytes b → length b ≤ length o → outcome t o ≡ record { answer = Bytes (length b); left = writtenAt o 0 b }
@@ -89,34 +85,5 @@ text-outcome = outcomes.text-right
 pub answered-bytes : (t o : List ℕ) (k : ℕ) → outcome t o .answer ≡ Bytes k → k ≤ length o → readText t ≡ bytes (take k (outcome t o .left))
 answered-bytes = outcomes.told-right
 
-pub answered-wrong : (t o : List ℕ) (n : ℕ) (f : Fault) (c : ℕ) → outcome t o .answer ≡ Wrong n f c → readText t ≡ fault n f c
+pub answered-wrong : (t o : List ℕ) (n : ℕ) (f : LineFault) (c : ℕ) → outcome t o .answer ≡ Wrong n f c → readText t ≡ fault n f c
 answered-wrong = outcomes.told-wrong
-
--- a supported instruction starts within the bytes
-pub instruction-inside : (e : List ℕ) (k : ℕ) → isInstruction e k ≡ true → k < length e
-instruction-inside e k i = texting.instructed e k i .inside
-
--- the text of an instruction has less than 64 characters, without the offset too, and a name at most 13
-pub text-some : (e : List ℕ) (k : ℕ) → 0 < length (textAt e k)
-text-some = texting.text-some
-
-pub text-length : (e : List ℕ) → AllBytes e → (k : ℕ) → k < 2 ^ 64 → length (textAt e k) < 64
-text-length = texting.text-length
-
-pub plain-length : (e : List ℕ) → AllBytes e → (k : ℕ) → k < 2 ^ 64 → length (plainAt e k) < 64
-plain-length = texting.plain-length
-
-pub name-length : (op : ℕ) → length (nameOf op) ≤ 13
-name-length = opcodes.name-length
-
--- a number, as `report::text::append_number` ensures it, is appended in decimal
-pub appends-number : {b b' : List ℕ} {n n' : ℕ} (v : ℕ) → ((k : ℕ) × Fewest 10 1 v k × Appends b n (digits 10 k v) b' n') → Appends b n (decimal v) b' n'
-appends-number v p = texting.appends-number v p
-
--- the fewest digits of a number are its decimal text
-pub digits-decimal : (k v : ℕ) → Fewest 10 1 v k → digits 10 k v ≡ decimal v
-digits-decimal = decimals.fewest-decimal
-
--- a word of 64 bits has at most 20 digits
-pub decimal-length : (v : ℕ) → v < 2 ^ 64 → length (decimal v) ≤ 20
-decimal-length = texting.decimal-twenty

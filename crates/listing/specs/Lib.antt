@@ -1,7 +1,5 @@
 -- The definitions of `listing`, in the order to read them. What is proved of them: proofs/Promises.antt.
-pub mod Names
 pub mod Numbers
-pub mod Text
 pub mod Line
 pub mod Meant
 pub mod Listing

@@ -6,12 +6,12 @@ use mathlib.Core.Path.{_≡_}
 use lib.Dec.{eqb}
 use lib.ListN.{length, take, drop}
 use Rattle.isa.specs.Starts.{startsFrom}
-use Rattle.listing.specs.Text.{textAt, isInstruction}
+use Rattle.instruction_text.specs.Text.{textAt, isInstruction}
 use Rattle.listing.specs.Line.{lineBytes}
 use Rattle.listing.specs.Meant.{meant}
-use Rattle.listing.specs.declared.reading.Fault.{Fault}
-use Rattle.listing.specs.declared.reading.Line.{Line}
-use Rattle.listing.specs.declared.reading.Line.the-variants.{Nothing, Instruction, Wrong}
+use Rattle.listing.specs.declared.reading.LineFault.{LineFault}
+use Rattle.listing.specs.declared.reading.ListingLine.{ListingLine}
+use Rattle.listing.specs.declared.reading.ListingLine.the-variants.{Nothing, Instruction, Wrong}
 
 -- the lines of the expression e from offset i on
 unfoldable pub listingFrom : List ℕ → ℕ → List (List ℕ)
@@ -28,13 +28,13 @@ allInstructions e (k ∷ ks) = isInstruction e k && allInstructions e ks
 -- the bytes of lines, or the first line that has a fault, its number counted from 1, with the fault and its column
 pub data Lines : Type 0 where
   bytes : List ℕ → Lines
-  fault : ℕ → Fault → ℕ → Lines
+  fault : ℕ → LineFault → ℕ → Lines
 
 abbrev pub afterBytes : List ℕ → Lines → Lines
 afterBytes l (bytes m) = bytes (l ++ m)
 afterBytes l (fault n f c) = fault n f c
 
-abbrev pub thenLines : ℕ → Line → (List ℕ → Lines) → Lines
+abbrev pub thenLines : ℕ → ListingLine → (List ℕ → Lines) → Lines
 thenLines n Nothing f = f []
 thenLines n (Instruction op count v) f = f (lineBytes (Instruction op count v))
 thenLines n (Wrong w c) f = fault n w c
@@ -45,9 +45,9 @@ readLines n i [] = bytes []
 readLines n i (l ∷ ls) = thenLines n (meant i l) (λ b. afterBytes b (readLines (n + 1) (i + length b) ls))
 
 -- ---- as one text: lines joined, and a text divided into lines, each with its line feed
-abbrev pub joined : List (List ℕ) → List ℕ
-joined [] = []
-joined (l ∷ ls) = l ++ joined ls
+abbrev pub joinedLines : List (List ℕ) → List ℕ
+joinedLines [] = []
+joinedLines (l ∷ ls) = l ++ joinedLines ls
 
 abbrev pub onto : ℕ → List (List ℕ) → List (List ℕ)
 onto c [] = (c ∷ []) ∷ []
@@ -64,7 +64,7 @@ pub record IsLine (t : List ℕ) (i j : ℕ) : Type 0 where
   pub first-is : linesOf (drop i t) ≡ take (j - i) (drop i t) ∷ linesOf (drop j t)
 
 unfoldable pub listingText : List ℕ → List ℕ
-listingText e = joined (listing e)
+listingText e = joinedLines (listing e)
 
 unfoldable pub readText : List ℕ → Lines
 readText t = readLines 1 0 (linesOf t)

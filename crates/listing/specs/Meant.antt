@@ -5,11 +5,11 @@ use mathlib.Core.Bool.{Bool, false, cond, not, _||_}
 use mathlib.Core.List.{List, [], _∷_}
 use lib.Dec.{eqb}
 use lib.ListN.{length, take}
-use Rattle.report.specs.Text.{bytesOf}
-use Rattle.words.specs.Words.{leading, sameBytes}
+use Rattle.text_buffer.specs.Text.{bytesOf}
+use Rattle.line_words.specs.Words.{leading, sameBytes}
 use Rattle.listing.specs.Line.{readLine}
-use Rattle.listing.specs.declared.reading.Line.{Line}
-use Rattle.listing.specs.declared.reading.Line.the-variants.{Nothing}
+use Rattle.listing.specs.declared.reading.ListingLine.{ListingLine}
+use Rattle.listing.specs.declared.reading.ListingLine.the-variants.{Nothing}
 
 -- how the lines without an instruction begin: two of GDB's, and those that `verify` prints
 unfoldable pub headings : List String
@@ -38,5 +38,5 @@ unfoldable pub beforeComment : List ℕ → List ℕ
 beforeComment l = before 35 (before 10 l)
 
 -- what a line says where the offset of the next instruction is `at`
-unfoldable pub meant : ℕ → List ℕ → Line
+unfoldable pub meant : ℕ → List ℕ → ListingLine
 meant at l = cond (isHeading l) Nothing (readLine at (beforeComment l))

@@ -1,6 +1,4 @@
-// Listings of expressions: an instruction as GDB's `maint agent` prints it, and such lines read back.
-pub mod names;
+// Listings of expressions, read back: lines as GDB's `maint agent` prints them.
 mod numbers;
 pub mod reading;
 pub mod whole;
-pub mod writing;

@@ -1,12 +1,11 @@
-// Numbers in decimal, and their bytes with the most significant first.
+// Signed numbers, read, and what operands can hold.
 ghost use mathlib.Core.Path.{_≡_};
-ghost use Prim.Native.Nat.{_+_, _<_, _≤_, _^_};
+ghost use Prim.Native.Nat.{_<_, _^_};
 ghost use lib.Dec.{T, ltb};
 ghost use lib.ListN.{length};
-ghost use Rattle.encoding.specs.Written.{writtenAt};
-ghost use Rattle.listing.specs.Numbers.{negated, signedOf, bigBytes, isWidth};
-use words::numbers::Number;
-use words::numbers::unsigned;
+ghost use Rattle.listing.specs.Numbers.{negated, signedNumber, isWidth};
+use line_words::numbers::Number;
+use line_words::numbers::unsigned;
 
 // The word of 64 bits for the negative of a number.
 fn negative(number: Number) -> Number
@@ -30,7 +29,7 @@ fn negative(number: Number) -> Number
 // A word that is digits, with or without a minus in front.
 pub(crate) fn signed(word: &[u8]) -> Number
     requires { ⌜ 0 < length (now word) ⌝ }
-    ensures { λ r. ⌜ r ≡ signedOf (now (word .entry)) ⌝ }
+    ensures { λ r. ⌜ r ≡ signedNumber (now (word .entry)) ⌝ }
 {
     if word[0] == b'-' {
         return negative(unsigned(&word[1..], 10));
@@ -48,19 +47,5 @@ pub(crate) fn fits(value: u64, count: usize) -> bool
         2 => value < 65536,
         4 => value < 4294967296,
         _ => true,
-    }
-}
-
-// Writes the `count` bytes of `value` from `at` on, most significant byte first.
-pub(crate) fn put_big(out: &mut [u8], at: usize, value: u64, count: usize)
-    requires { ⌜ at + count ≤ length (now out) ⌝ }
-    ensures { λ _. ⌜ now (out .exit) ≡ writtenAt (now (out .entry)) at (bigBytes count value) ⌝ }
-{
-    let mut rest = value;
-    let mut left = count;
-    while 0 < left {
-        left -= 1;
-        out[at + left] = (rest % 256) as u8;
-        rest = rest / 256;
     }
 }

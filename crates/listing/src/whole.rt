@@ -2,22 +2,22 @@
 ghost use mathlib.Core.Path.{_≡_};
 ghost use Prim.Native.Nat.{ℕ, _+_, _<_, _≤_};
 ghost use lib.ListN.{length, take};
-ghost use Rattle.words.specs.Words.{leading};
+ghost use Rattle.line_words.specs.Words.{leading};
 ghost use Rattle.listing.specs.Line.{readAnswer, readLeft};
 ghost use Rattle.listing.specs.Meant.{isNot, begins, isHeading, beforeComment, meant};
 ghost use Rattle.listing.specs.Listing.{IsLine};
 ghost use Rattle.listing.specs.Whole.{outcome};
-use crate::reading::Fault;
-use crate::reading::Read;
+use crate::reading::LineFault;
+use crate::reading::LineRead;
 use crate::reading::read_instruction;
-use words::is_same;
+use line_words::is_same;
 
 // So many bytes were written; or the buffer has no room for those of a line; or a line has a fault, at
 // a column. Lines are counted from 1, columns from 0.
-pub enum Whole {
+pub enum ListingRead {
     Bytes(usize),
     NoRoom(usize),
-    Wrong(usize, Fault, usize),
+    Wrong(usize, LineFault, usize),
 }
 
 // How many characters stand before the first `c`.
@@ -72,13 +72,13 @@ fn before_comment(line: &[u8]) -> usize
 }
 
 // Puts the bytes of a line at `at`, the offset of the next instruction.
-fn take_line(line: &[u8], out: &mut [u8], at: usize) -> Read
+fn take_line(line: &[u8], out: &mut [u8], at: usize) -> LineRead
     ensures answer { λ r. ⌜ r ≡ readAnswer (meant at (now (line .entry))) at (now (out .entry)) ⌝ }
     ensures bytes { λ _. ⌜ now (out .exit) ≡ readLeft (meant at (now (line .entry))) at (now (out .entry)) ⌝ }
-    ensures within { λ r. ⌜ ((n : ℕ) → r ≡ Read.Bytes n → at ≤ length (now (out .entry)) → at + n ≤ length (now (out .exit))) ⌝ }
+    ensures within { λ r. ⌜ ((n : ℕ) → r ≡ LineRead.Bytes n → at ≤ length (now (out .entry)) → at + n ≤ length (now (out .exit))) ⌝ }
 {
     if is_heading(line) {
-        return Read::Bytes(0);
+        return LineRead::Bytes(0);
     }
     let n = before_comment(line);
     read_instruction(&line[0..n], out, at)
@@ -97,10 +97,10 @@ fn line_end(text: &[u8], start: usize) -> usize
 }
 
 // Puts the bytes of a listing at the start of `out`, up to the first line that cannot be read.
-pub fn read_listing(text: &[u8], out: &mut [u8]) -> Whole
+pub fn read_listing(text: &[u8], out: &mut [u8]) -> ListingRead
     ensures answer { λ r. ⌜ r ≡ outcome (now (text .entry)) (now (out .entry)) .answer ⌝ }
     ensures bytes { λ _. ⌜ now (out .exit) ≡ outcome (now (text .entry)) (now (out .entry)) .left ⌝ }
-    ensures within { λ r. ⌜ ((n : ℕ) → r ≡ Whole.Bytes n → n ≤ length (now (out .exit))) ⌝ }
+    ensures within { λ r. ⌜ ((n : ℕ) → r ≡ ListingRead.Bytes n → n ≤ length (now (out .exit))) ⌝ }
 {
     let mut start = 0;
     let mut line = 1;
@@ -108,14 +108,14 @@ pub fn read_listing(text: &[u8], out: &mut [u8]) -> Whole
     while start < text.len() {
         let end = line_end(text, start);
         match take_line(&text[start..end], out, at) {
-            Read::Bytes(n) => {
+            LineRead::Bytes(n) => {
                 at += n;
                 start = end;
                 line += 1;
             }
-            Read::NoRoom => return Whole::NoRoom(line),
-            Read::Wrong(fault, column) => return Whole::Wrong(line, fault, column),
+            LineRead::NoRoom => return ListingRead::NoRoom(line),
+            LineRead::Wrong(fault, column) => return ListingRead::Wrong(line, fault, column),
         }
     }
-    Whole::Bytes(at)
+    ListingRead::Bytes(at)
 }

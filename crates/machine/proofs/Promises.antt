@@ -7,19 +7,22 @@ use mathlib.Core.Logic.{_≢_}
 use mathlib.Core.Path.{_≡_}
 use Prim.Native.Nat.{ℕ, _+_, _-_, _≤_, _<_}
 use lib.ListN.{length, getD}
-use Rattle.isa.specs.Classes.{kind-end}
-use Rattle.isa.specs.Decode.{kindAt, needed, left, heightAfter}
+use Rattle.isa.specs.Classes.{setv, kind-end}
+use Rattle.isa.specs.Decode.{classAt, kindAt, needed, left, heightAfter}
 use Rattle.isa.specs.Walk.{After}
-use Rattle.memory.specs.Spans.{spansRefusal}
+use Rattle.sizes.specs.Sizes.{buffer-most}
+use Rattle.refusals.specs.declared.Refusal.{Refusal}
+use Rattle.refusals.specs.Refusal.{refusal}
+use Rattle.memory.specs.Spans.{Target, spansRefusal}
 use Rattle.memory.specs.Fetch.{InTarget, targetByte}
-use Rattle.frames.specs.Trailer.{trailerSize}
+use Rattle.frames.specs.Trailer.{trailerSize, tagOf, TagFits}
 use Rattle.frames.specs.Record.{Record, encodeAll, memory, AllWellFormed}
 use Rattle.verdict.specs.Verdict.{accepted, refused, verdict}
 use Rattle.verdict.specs.Acceptance.{Accepted, Ready}
-use Rattle.machine.specs.Fed.{Fed, State, begin}
-use Rattle.machine.specs.Meaning.{leaves, faults, endDone, done, stackAfter, offsetAfter}
+use Rattle.machine.specs.Given.{Given, Fixed, State, begin}
+use Rattle.machine.specs.Meaning.{leaves, faults, endDone, done, stackAfter, variablesAfter, offsetAfter}
 use Rattle.machine.specs.Machine.{Answer, completed, stopped, moves}
-use Rattle.machine.specs.Run.{inputRefusal, ended, stepsOf, numberOf}
+use Rattle.machine.specs.Run.{inputRefusal, stepped, ended, stepsOf, numberOf}
 use Rattle.machine.specs.Recorded.{FromTarget, AllFromTarget, recordsOf, Typed}
 use Rattle.machine.proofs.Cells as cells
 use Rattle.machine.proofs.Following as following
@@ -33,54 +36,54 @@ use Rattle.machine.proofs.WellFormed as well-formed
 pub use Rattle.machine.proofs.Following.{OnWalk}
 
 -- ---- R2: the steps of a run
-module _ (m : Fed) (v buffer : List ℕ) (used allowance : ℕ) where
+module _ (g : Given) where
   -- never more than the allowance
-  pub steps-allowed : stepsOf (ended m v buffer used allowance) ≤ allowance
-  steps-allowed = steps.steps-allowed m v buffer used allowance
+  pub steps-allowed : stepsOf (ended g) ≤ g .allowance
+  steps-allowed = steps.steps-allowed g
 
   -- never more than the longest walk
-  pub steps-longest : {n g l : ℕ} → verdict (m .expression) ≡ accepted n g l → stepsOf (ended m v buffer used allowance) ≤ l
-  steps-longest = steps.steps-longest m v buffer used allowance
+  pub steps-longest : {n h l : ℕ} → verdict (g .expression) ≡ accepted n h l → stepsOf (ended g) ≤ l
+  steps-longest = steps.steps-longest g
 
   -- an allowance of the longest walk, or more, is never spent: refusal 16 is not met
-  pub allowance-enough : {n g l : ℕ} → verdict (m .expression) ≡ accepted n g l → l ≤ allowance → numberOf (ended m v buffer used allowance) ≢ 16
-  allowance-enough = steps.allowance-enough m v buffer used allowance
+  pub allowance-enough : {n h l : ℕ} → verdict (g .expression) ≡ accepted n h l → l ≤ g .allowance → numberOf (ended g) ≢ 16
+  allowance-enough = steps.allowance-enough g
 
   -- and neither is one of as many steps as an expression may have bytes, as the default is
-  pub bytes-enough : 1024 ≤ allowance → numberOf (ended m v buffer used allowance) ≢ 16
-  bytes-enough = steps.bytes-enough m v buffer used allowance
+  pub bytes-enough : 1024 ≤ g .allowance → numberOf (ended g) ≢ 16
+  bytes-enough = steps.bytes-enough g
 
   -- ---- the number of a refusal is one of 1 to 21
-  pub stopped-number : {r k n : ℕ} {rs : List Record} → ended m v buffer used allowance ≡ stopped r k n rs → (1 ≤ r) × (r ≤ 21)
-  stopped-number = steps.stopped-number m v buffer used allowance
+  pub stopped-number : {r : Refusal} {rs : List Record} → ended g ≡ stopped r rs → (1 ≤ r .number) × (r .number ≤ 21)
+  stopped-number = steps.stopped-number g
 
   -- ---- how a run begins
   -- a refused expression ends it, with 0 steps and no records; else refused inputs do; else the machine moves from its
   -- beginning
-  pub refused-early : {r k : ℕ} → verdict (m .expression) ≡ refused r k → ended m v buffer used allowance ≡ stopped r k 0 []
-  refused-early = steps.refused-early m v buffer used allowance
+  pub refused-early : {r : Refusal} → verdict (g .expression) ≡ refused r → ended g ≡ stopped r []
+  refused-early = steps.refused-early g
 
-  module _ {n g l : ℕ} (p : verdict (m .expression) ≡ accepted n g l) where
-    pub inputs-refused : inputRefusal m buffer used ≢ 0 → ended m v buffer used allowance ≡ stopped (inputRefusal m buffer used) 0 0 []
-    inputs-refused = steps.inputs-refused m v buffer used allowance p
+  module _ {n h l : ℕ} (p : verdict (g .expression) ≡ accepted n h l) where
+    pub inputs-refused : inputRefusal g ≢ 0 → ended g ≡ stopped (refusal (inputRefusal g) 0) []
+    inputs-refused = steps.inputs-refused g p
 
-    pub inputs-fine : inputRefusal m buffer used ≡ 0 → ended m v buffer used allowance ≡ moves m (length buffer - used) allowance (begin v)
-    inputs-fine = steps.inputs-fine m v buffer used allowance p
+    pub inputs-fine : inputRefusal g ≡ 0 → ended g ≡ stepped g
+    inputs-fine = steps.inputs-fine g p
 
 -- ---- R2 from any state on: `left` is the allowance less the steps done
-module _ (m : Fed) (room : ℕ) where
-  pub moves-allowed : (left : ℕ) (st : State) → stepsOf (moves m room left st) ≤ st .steps + left
-  moves-allowed = steps.moves-allowed m room
+module _ (g : Given) where
+  pub moves-allowed : (left : ℕ) (st : State) → stepsOf (moves g left st) ≤ st .steps + left
+  moves-allowed = steps.moves-allowed g
 
-  module _ {n g l : ℕ} (a : Accepted (m .expression) n g l) where
-    pub moves-longest : (left : ℕ) (st : State) → OnWalk (m .expression) (st .offset) (st .stack) (st .steps) → stepsOf (moves m room left st) ≤ l
-    moves-longest = steps.moves-longest m room a
+  module _ {n h l : ℕ} (a : Accepted (g .expression) n h l) where
+    pub moves-longest : (left : ℕ) (st : State) → OnWalk (g .expression) (st .offset) (st .stack) (st .steps) → stepsOf (moves g left st) ≤ l
+    moves-longest = steps.moves-longest g a
 
-    pub moves-enough : (left : ℕ) (st : State) → OnWalk (m .expression) (st .offset) (st .stack) (st .steps) → l ≤ st .steps + left → numberOf (moves m room left st) ≢ 16
-    moves-enough = steps.moves-enough m room a
+    pub moves-enough : (left : ℕ) (st : State) → OnWalk (g .expression) (st .offset) (st .stack) (st .steps) → l ≤ st .steps + left → numberOf (moves g left st) ≢ 16
+    moves-enough = steps.moves-enough g a
 
 -- ---- one instruction: the table agrees with the meaning
-module _ (m : Fed) (k : ℕ) (s v : List ℕ) (free : ℕ) where
+module _ (m : Fixed) (k : ℕ) (s v : List ℕ) (free : ℕ) where
   -- an instruction that has its cells leaves as many as the table says, and the height after it is the table's
   pub left-cells : {cells : List ℕ} {rs : List Record} → done m k s v free ≡ leaves cells rs → needed (m .expression) k ≤ length s → length cells ≡ left (m .expression) k
   left-cells = cells.left-cells m k s v free
@@ -93,6 +96,10 @@ module _ (m : Fed) (k : ℕ) (s v : List ℕ) (free : ℕ) where
 pub after-offset : (e : List ℕ) (k : ℕ) (s : List ℕ) → kindAt e k ≢ kind-end → After e k (offsetAfter e k s)
 after-offset = cells.after-offset
 
+-- an instruction that is no setv leaves the variables as they are
+pub unset-variables : (e : List ℕ) (k : ℕ) (s v : List ℕ) → classAt e k ≢ setv → variablesAfter e k s v ≡ v
+unset-variables = cells.unset-variables
+
 -- ---- what a loop needs, step by step: at the offset k, with the stack s, after i steps
 module _ {e : List ℕ} {n g l : ℕ} (a : Accepted e n g l) where
   -- it begins on a walk
@@ -101,7 +108,7 @@ module _ {e : List ℕ} {n g l : ℕ} (a : Accepted e n g l) where
 
   module _ {k : ℕ} {s : List ℕ} {i : ℕ} (w : OnWalk e k s i) where
     -- the instruction there is whole and known, has its cells, and what it leaves fits
-    pub walk-ready : Ready e l (w .list) k (length s)
+    pub walk-ready : Ready e k (length s)
     walk-ready = following.walk-ready a w
 
     -- with it the steps are at most the longest walk, and fewer where it is no end
@@ -111,7 +118,7 @@ module _ {e : List ℕ} {n g l : ℕ} (a : Accepted e n g l) where
     pub steps-shorter : kindAt e k ≢ kind-end → i + 1 < l
     steps-shorter = following.steps-shorter a w
 
-module _ (m : Fed) {n g l : ℕ} (a : Accepted (m .expression) n g l) {k : ℕ} {s : List ℕ} {i : ℕ} (w : OnWalk (m .expression) k s i) (v : List ℕ) (free : ℕ) where
+module _ (m : Fixed) {n g l : ℕ} (a : Accepted (m .expression) n g l) {k : ℕ} {s : List ℕ} {i : ℕ} (w : OnWalk (m .expression) k s i) (v : List ℕ) (free : ℕ) where
   -- after an instruction that is not refused and no end, it is on a walk again
   pub walk-moves : {cells : List ℕ} {rs : List Record} → done m k s v free ≡ leaves cells rs → kindAt (m .expression) k ≢ kind-end
       → OnWalk (m .expression) (offsetAfter (m .expression) k s) (stackAfter (m .expression) k s cells) (i + 1)
@@ -121,35 +128,41 @@ module _ (m : Fed) {n g l : ℕ} (a : Accepted (m .expression) n g l) {k : ℕ} 
   pub walk-faults : {r : ℕ} → done m k s v free ≡ faults r → (17 ≤ r) × (r ≤ 21)
   walk-faults = following.walk-faults m a w v free
 
+-- ---- inputs that are not refused: no span is, and the used length lies in a buffer of an allowed size
+pub spans-fine : (g : Given) → inputRefusal g ≡ 0 → spansRefusal (g .target) ≡ 0
+spans-fine = made.spans-fine
+
+pub lengths-fine : (g : Given) → inputRefusal g ≡ 0 → (length (g .buffer) ≤ buffer-most) × (g .used ≤ length (g .buffer))
+lengths-fine = ending.lengths-fine
+
 -- ---- an end needs room for the trailer
-pub end-done : (m : Fed) (k : ℕ) (s v : List ℕ) (free : ℕ) → kindAt (m .expression) k ≡ kind-end → done m k s v free ≡ endDone free
+pub end-done : (m : Fixed) (k : ℕ) (s v : List ℕ) (free : ℕ) → kindAt (m .expression) k ≡ kind-end → done m k s v free ≡ endDone free
 end-done = ending.end-done
 
 pub end-room : {free : ℕ} {cells : List ℕ} {rs : List Record} → endDone free ≡ leaves cells rs → trailerSize ≤ free
 end-room = ending.end-room
 
 -- so that the records of a run that completed, and the trailer, fit into the buffer
-pub completed-fits : (m : Fed) (v buffer : List ℕ) (used allowance : ℕ) (a : Answer) {n : ℕ} (w : List ℕ) (rs : List Record) → ended m v buffer used allowance ≡ completed a n w rs
-    → (used + (length (encodeAll rs) + trailerSize) ≤ length buffer) × (length buffer ≤ 65536)
+pub completed-fits : (g : Given) (a : Answer) {n : ℕ} (w : List ℕ) (rs : List Record) → ended g ≡ completed a n w rs
+    → (g .used + (length (encodeAll rs) + trailerSize) ≤ length (g .buffer)) × (length (g .buffer) ≤ buffer-most)
 completed-fits = ending.completed-fits
 
 -- ---- R3: each recorded byte is the target's byte at the recorded address
 -- a memory record of a run, completed or stopped, holds exactly the bytes of the one span that holds its range
-pub records-from-target : (m : Fed) (v buffer : List ℕ) (used allowance : ℕ) → AllFromTarget m (recordsOf (ended m v buffer used allowance))
+pub records-from-target : (g : Given) → AllFromTarget (g .target) (recordsOf (ended g))
 records-from-target = recorded.records-from-target
 
 -- the same byte by byte, where inputs are not refused: a span holds the byte's address, and the byte is the target's
 -- there
-pub spans-fine : (m : Fed) (buffer : List ℕ) (used : ℕ) → inputRefusal m buffer used ≡ 0 → spansRefusal (m .image-first) (m .image) (m .work-first) (m .work) ≡ 0
-spans-fine = made.spans-fine
-
-pub recorded-byte : (m : Fed) → spansRefusal (m .image-first) (m .image) (m .work-first) (m .work) ≡ 0 → (a : ℕ) (bytes : List ℕ) → FromTarget m (memory a bytes)
-    → (i : ℕ) → i < length bytes
-    → InTarget (m .image-first) (m .image) (m .work-first) (m .work) (a + i)
-    × (getD bytes i 0 ≡ targetByte (m .image-first) (m .image) (m .work-first) (m .work) (a + i))
+pub recorded-byte : (t : Target) → spansRefusal t ≡ 0 → (a : ℕ) (bytes : List ℕ) → FromTarget t (memory a bytes) → (i : ℕ) → i < length bytes
+    → InTarget t (a + i) × (getD bytes i 0 ≡ targetByte t (a + i))
 recorded-byte = recorded.recorded-byte
 
 -- ---- every record of a run can be encoded and read back, of inputs that are what their types say, as any are: the
 -- contract of `typed`
-pub records-well-formed : {m : Fed} {t : ℕ} {v : List ℕ} → Typed m t v → (buffer : List ℕ) (used allowance : ℕ) → AllWellFormed (recordsOf (ended m v buffer used allowance))
+pub records-well-formed : {g : Given} → Typed g → AllWellFormed (recordsOf (ended g))
 records-well-formed = well-formed.records-well-formed
+
+-- and so can the tag of its frame
+pub tag-fits : {g : Given} → Typed g → TagFits (tagOf (g .tracepoint))
+tag-fits = well-formed.tag-fits

@@ -15,15 +15,16 @@ use Rattle.isa.specs.Classes.{Class, binary, trace, tracenz, unary, ref, trace-
 use Rattle.isa.specs.Decode.{classAt, kindAt, operandBytes, operand, needed}
 use Rattle.isa.proofs.Promises.{operands-most, ref-most}
 use Rattle.arithmetic.proofs.Promises as word
+use Rattle.memory.specs.Spans.{Target}
 use Rattle.memory.specs.Fetch.{holdsRange, readable, fetchRefusal, fetched}
 use Rattle.memory.proofs.Promises.{spans-0}
 use Rattle.frames.specs.Record.{variable, encodeAll, WellFormed, AllWellFormed}
-use Rattle.frames.specs.Trailer.{trailerSize}
+use Rattle.frames.specs.Trailer.{trailerSize, tagOf, TagFits}
 use Rattle.verdict.specs.Acceptance.{Accepted}
-use Rattle.machine.specs.Fed.{Fed, State}
+use Rattle.machine.specs.Given.{Given, fixedOf, State, freeOf}
 use Rattle.machine.specs.Words.{binaryWord, zeroDivisor, unaryWord}
 use Rattle.machine.specs.Recording.{Made, made, refuses, fitting, rangeMade, toZeroMade}
-use Rattle.machine.specs.Meaning.{Done, leaves, faults, recording, binaryDone, refDone, regDone, endDone, meaning, done, stackAfter, variablesAfter}
+use Rattle.machine.specs.Meaning.{Done, leaves, faults, recording, binaryDone, refDone, regDone, endDone, meaning, done, stackAfter, isSetv, variablesAfter}
 use Rattle.machine.specs.Run.{ended}
 use Rattle.machine.specs.Recorded.{recordsOf, Typed}
 use Rattle.machine.proofs.Cells.{by-test}
@@ -83,7 +84,7 @@ Few n l = AllBytes l × (length l ≤ n)
 part-few : (n i : ℕ) (l : List ℕ) → AllBytes l → Few n (take n (drop i l))
 part-few n i l h = (below-take 256 n _ (below-drop 256 i l h), omega (arith, length-take n (drop i l)))
 
-module _ {m : Fed} {t : ℕ} {given : List ℕ} (typed : Typed m t given) where
+module _ {m : Given} (typed : Typed m) where
   operand-word : (k : ℕ) → Word (operand (m .expression) k)
   unfolding operand
   operand-word k =
@@ -91,30 +92,30 @@ module _ {m : Fed} {t : ℕ} {given : List ℕ} (typed : Typed m t given) where
       eight-bytes _ (operandBytes e k) (big-below e (k + 1) (operandBytes e k) (typed .expression)) (operands-most (getD e k 0))
 
   -- a fetch of n bytes lends no more
-  fetched-bytes : (a n : ℕ) → Few n (fetched (m .image-first) (m .image) (m .work-first) (m .work) a n)
+  fetched-bytes : (a n : ℕ) → Few n (fetched (m .target) a n)
   unfolding fetched
   fetched-bytes a n =
-      by-test (Few n) (eqb (fetchRefusal (m .image-first) (m .image) (m .work-first) (m .work) a n) 0) _ _
-      (λ _. by-test (Few n) (holdsRange (m .image-first) (length (m .image)) a n) _ _ (λ _. part-few n (a - m .image-first) (m .image) (typed .image))
-      λ _. by-test (Few n) (holdsRange (m .work-first) (length (m .work)) a n) _ _ (λ _. part-few n (a - m .work-first) (m .work) (typed .work)) (λ _. (λ _. omega arith, omega arith)))
+      by-test (Few n) (eqb (fetchRefusal (m .target) a n) 0) _ _
+      (λ _. by-test (Few n) (holdsRange (m .target .image) a n) _ _ (λ _. part-few n (a - m .target .image .first) (m .target .image .bytes) (typed .image))
+      λ _. by-test (Few n) (holdsRange (m .target .work) a n) _ _ (λ _. part-few n (a - m .target .work .first) (m .target .work .bytes) (typed .work)) (λ _. (λ _. omega arith, omega arith)))
       (λ _. (λ _. omega arith, omega arith))
 
-  ref-word : (a n : ℕ) → n ≤ 8 → Word (littleEndian (fetched (m .image-first) (m .image) (m .work-first) (m .work) a n))
+  ref-word : (a n : ℕ) → n ≤ 8 → Word (littleEndian (fetched (m .target) a n))
   ref-word a n h =
       let w = fetched-bytes a n in
-      eight-bytes _ _ (little-below (fetched (m .image-first) (m .image) (m .work-first) (m .work) a n) (w .0)) (omega (arith, w .1))
+      eight-bytes _ _ (little-below (fetched (m .target) a n) (w .0)) (omega (arith, w .1))
 
   module _ (k : ℕ) (s v : List ℕ) (free : ℕ) (cells : AllWords s) (values : AllWords v) (some : kindAt (m .expression) k ≡ kind-ext → 1 ≤ operand (m .expression) k) where
-    meaning-words : (op : ℕ) (c : Class) → classAt (m .expression) k ≡ c → LeavesWords (meaning m s v free op (operand (m .expression) k) c)
+    meaning-words : (op : ℕ) (c : Class) → classAt (m .expression) k ≡ c → LeavesWords (meaning (fixedOf m) s v free op (operand (m .expression) k) c)
     unfolding binaryDone refDone regDone endDone
     meaning-words op binary p = by-test LeavesWords (zeroDivisor op (getD s 0 0)) _ _ (λ _. tt) (λ _. one-word _ (binary-word op _ _ (cells 1) (cells 0)))
-    meaning-words op trace p = recording-words [] (rangeMade m free (getD s 1 0) (getD s 0 0)) no-words
-    meaning-words op tracenz p = recording-words [] (toZeroMade m free (getD s 1 0) (getD s 0 0)) no-words
+    meaning-words op trace p = recording-words [] (rangeMade (m .target) free (getD s 1 0) (getD s 0 0)) no-words
+    meaning-words op tracenz p = recording-words [] (toZeroMade (m .target) free (getD s 1 0) (getD s 0 0)) no-words
     meaning-words op unary p = one-word _ (unary-word op _)
     meaning-words op (ref n) p =
-        by-test LeavesWords (readable (m .image-first) (m .image) (m .work-first) (m .work) (getD s 0 0) n) _ _
+        by-test LeavesWords (readable (m .target) (getD s 0 0) n) _ _
         (λ _. one-word _ (ref-word (getD s 0 0) n (ref-most (getD (m .expression) k 0) n p))) (λ _. tt)
-    meaning-words op (trace-quick n) p = recording-words (getD s 0 0 ∷ []) (rangeMade m free (getD s 0 0) (operand (m .expression) k)) (one-word _ (cells 0))
+    meaning-words op (trace-quick n) p = recording-words (getD s 0 0 ∷ []) (rangeMade (m .target) free (getD s 0 0) (operand (m .expression) k)) (one-word _ (cells 0))
     meaning-words op ext p = one-word _ (word.ext-below _ _ (cells 0) (some (rw p)))
     meaning-words op zero-ext p = one-word _ (word.zero-ext-below _ _ (cells 0))
     meaning-words op setv p = one-word _ (cells 0)
@@ -136,13 +137,13 @@ module _ {m : Fed} {t : ℕ} {given : List ℕ} (typed : Typed m t given) where
     meaning-words op unsupported p = tt
     meaning-words op unknown p = tt
 
-    done-words : LeavesWords (done m k s v free)
+    done-words : LeavesWords (done (fixedOf m) k s v free)
     unfolding done
     done-words = meaning-words (getD (m .expression) k 0) (classAt (m .expression) k) refl
 
 -- ---- moves
 -- what each move keeps
-record Running (m : Fed) (st : State) : Type 0 where
+record Running (m : Given) (st : State) : Type 0 where
   walk : OnWalk (m .expression) (st .offset) (st .stack) (st .steps)
   cells : AllWords (st .stack)
   values : AllWords (st .variables)
@@ -153,32 +154,36 @@ stack-words e k s cells h t = below-append (2 ^ 64) cells _ t (below-drop (2 ^ 6
 
 variables-words : (e : List ℕ) (k : ℕ) (s v : List ℕ) → AllWords s → AllWords v → AllWords (variablesAfter e k s v)
 unfolding variablesAfter
-variables-words e k s v h t = by-test AllWords (eqb (getD e k 0) 0x2d) _ _ (λ _. below-set (2 ^ 64) v (operand e k) _ (h 0) t) (λ _. t)
+variables-words e k s v h t = by-test AllWords (isSetv (classAt e k)) _ _ (λ _. below-set (2 ^ 64) v (operand e k) _ (h 0) t) (λ _. t)
 
-module _ {m : Fed} {t : ℕ} {v : List ℕ} (typed : Typed m t v) (room : ℕ) {n g l : ℕ} (a : Accepted (m .expression) n g l) where
-  keeps : Keeps m v room WellFormed (Running m)
+module _ {m : Given} (typed : Typed m) {n g l : ℕ} (a : Accepted (m .expression) n g l) where
+  keeps : Keeps m WellFormed (Running m)
   keeps = record {
     first = record { walk = walk-begins a; cells = no-words; values = typed .variables };
     of-variable = λ st f p. record { number-fits = walk-ready a (f .walk) .variable-low (rw p); value-fits = f .values (operand (m .expression) (st .offset)) };
     kept = λ st f cells rs e h. record {
-      walk = walk-moves m a (f .walk) (st .variables) _ e h;
+      walk = walk-moves (fixedOf m) a (f .walk) (st .variables) _ e h;
       cells = stack-words (m .expression) (st .offset) (st .stack) cells (f .cells)
-          (rw e at (done-words typed (st .offset) (st .stack) (st .variables) (room - length (encodeAll (st .records))) (f .cells) (f .values) (walk-ready a (f .walk) .ext-some)));
+          (rw e at (done-words typed (st .offset) (st .stack) (st .variables) (freeOf m st) (f .cells) (f .values) (walk-ready a (f .walk) .ext-some)));
       values = variables-words (m .expression) (st .offset) (st .stack) (st .variables) (f .cells) (f .values);
     };
   }
 
 -- a memory record's address is in a span, and no span ends past 2^64
-memory-well : (m : Fed) → OfMemory m WellFormed
-memory-well m fine a bytes from some most =
-    let w = spans-0 (m .image-first) (m .image) (m .work-first) (m .work) .0 fine in
+memory-well : (t : Target) → OfMemory t WellFormed
+memory-well t fine a bytes from some most =
+    let w = spans-0 t .0 fine in
     record {
       address-fits = ⊎-elim (λ p. omega (arith, p .within 0 (omega arith), w .image-fits)) (λ p. omega (arith, p .within 0 (omega arith), w .work-fits)) from;
       some = some;
       most = most;
     }
 
+-- ---- the tag of a frame fits its trailer
+pub tag-fits : {g : Given} → Typed g → TagFits (tagOf (g .tracepoint))
+tag-fits typed = record { tracepoint-fits = omega (arith, typed .tracepoint) }
+
 -- ---- whole runs
-pub records-well-formed : {m : Fed} {t : ℕ} {v : List ℕ} → Typed m t v → (buffer : List ℕ) (used allowance : ℕ) → AllWellFormed (recordsOf (ended m v buffer used allowance))
-records-well-formed {m} {t} {v} typed buffer used allowance =
-    records-all m v buffer used allowance WellFormed (memory-well m) (Running m) (λ _ _ _ a. keeps typed (length buffer - used) a) AllWellFormed tt (λ _ _ p q. (p, q))
+pub records-well-formed : {g : Given} → Typed g → AllWellFormed (recordsOf (ended g))
+records-well-formed {g} typed =
+    records-all g WellFormed (memory-well (g .target)) (Running g) (λ _ _ _ a. keeps typed a) AllWellFormed tt (λ _ _ p q. (p, q))

@@ -1,64 +1,74 @@
 -- A run on any input: the refusals tried before stepping, the machine, and what is returned (document 01, "Running").
-use mathlib.Core.Bool.{Bool, cond, _||_}
+use mathlib.Core.Bool.{Bool, cond}
 use mathlib.Core.List.{List, [], _∷_, _++_}
-use Prim.Native.Nat.{ℕ, _+_, _-_}
+use Prim.Native.Nat.{ℕ, _+_}
 use lib.ListN.{length}
 use lib.Dec.{eqb, ltb}
-use Rattle.encoding.specs.Tried.{tried}
+use Rattle.sizes.specs.Sizes.{registers-most}
+use Rattle.refusals.specs.Numbers.{registers-many, buffer-bad}
+use Rattle.refusals.specs.Refusal.{refusal}
+use Rattle.refusals.specs.Tried.{tried}
 use Rattle.encoding.specs.Written.{writtenAt}
-use Rattle.memory.specs.Spans.{spanTests}
+use Rattle.memory.specs.Spans.{Target, spanTests}
 use Rattle.frames.specs.Record.{encodeAll}
-use Rattle.frames.specs.Trailer.{encodeTrailer}
+use Rattle.frames.specs.Trailer.{tagOf}
+use Rattle.frames.specs.Frame.{encodeFrame}
+use Rattle.frames.specs.Buffer.{unfit}
 use Rattle.verdict.specs.Verdict.{Verdict, accepted, refused, verdict}
-use Rattle.machine.specs.Fed.{Fed, begin}
+use Rattle.machine.specs.Given.{Given, begin}
 use Rattle.machine.specs.Machine.{Ended, completed, stopped, moves}
 
--- 12 and 13 of the spans; 14: "over 256 registers"; 15: "buffer over 65,536 or used beyond its length"
-abbrev pub inputTests : Fed → List ℕ → ℕ → List (Bool × ℕ)
-inputTests m buffer used =
-    spanTests (m .image-first) (m .image) (m .work-first) (m .work)
-    ++ ((ltb 256 (length (m .registers)), 14) ∷ (ltb 65536 (length buffer) || ltb (length buffer) used, 15) ∷ [])
+-- 12 and 13 of the spans; 14: "over 256 registers"; 15 of the buffer
+abbrev pub inputTests : List ℕ → Target → List ℕ → ℕ → List (Bool × ℕ)
+inputTests registers t buffer used =
+    spanTests t ++ ((ltb registers-most (length registers), registers-many) ∷ (unfit buffer used, buffer-bad) ∷ [])
 
-unfoldable pub inputRefusal : Fed → List ℕ → ℕ → ℕ
-inputRefusal m buffer used = tried (inputTests m buffer used)
+unfoldable pub inputRefusal : Given → ℕ
+inputRefusal g = tried (inputTests (g .registers) (g .target) (g .buffer) (g .used))
 
-abbrev pub afterInputs : Fed → List ℕ → List ℕ → ℕ → ℕ → ℕ → Ended
-afterInputs m v buffer used allowance r = cond (eqb r 0) (moves m (length buffer - used) allowance (begin v)) (stopped r 0 0 [])
+-- the machine's moves from the beginning on
+abbrev pub stepped : Given → Ended
+stepped g = moves g (g .allowance) (begin g)
 
-abbrev pub afterVerdict : Fed → List ℕ → List ℕ → ℕ → ℕ → Verdict → Ended
-afterVerdict m v buffer used allowance (accepted n g l) = afterInputs m v buffer used allowance (inputRefusal m buffer used)
-afterVerdict m v buffer used allowance (refused r k) = stopped r k 0 []
+abbrev pub afterInputs : Given → ℕ → Ended
+afterInputs g r = cond (eqb r 0) (stepped g) (stopped (refusal r 0) [])
 
--- "A refusal tried before stepping (here 1 to 15) ends it, with 0 steps and no records." "The runner verifies first, then checks 12 to 15, then steps."
-unfoldable pub ended : Fed → List ℕ → List ℕ → ℕ → ℕ → Ended
-ended m v buffer used allowance = afterVerdict m v buffer used allowance (verdict (m .expression))
+abbrev pub afterVerdict : Given → Verdict → Ended
+afterVerdict g (accepted n h l) = afterInputs g (inputRefusal g)
+afterVerdict g (refused r) = stopped r []
+
+-- "A refusal tried before stepping (here 1 to 15) ends it, with 0 steps and no records." "The runner verifies first,
+-- then checks 12 to 15, then steps."
+unfoldable pub ended : Given → Ended
+ended g = afterVerdict g (verdict (g .expression))
 
 -- "An entry without an allowance uses 1,024."
 abbrev pub defaultAllowance : ℕ
 defaultAllowance = 1024
 
--- ---- what a run returns besides: variables, buffer and used length
--- the bytes written from the old used length on: the records, and the trailer where the run completed
-unfoldable pub leftBytes : ℕ → Ended → List ℕ
-leftBytes tracepoint (completed a n v rs) = encodeAll rs ++ encodeTrailer tracepoint (length (encodeAll rs))
-leftBytes tracepoint (stopped r k n rs) = encodeAll rs
+-- ---- what a run leaves of what it is given: variables, buffer and used length
+-- the bytes written from the old used length on: the frame where the run completed, else the records made before the
+-- refusal
+unfoldable pub leftBytes : Given → Ended → List ℕ
+leftBytes g (completed a n v rs) = encodeFrame (tagOf (g .tracepoint)) rs
+leftBytes g (stopped r rs) = encodeAll rs
 
-unfoldable pub variablesOf : List ℕ → Ended → List ℕ
-variablesOf given (completed a n v rs) = v
-variablesOf given (stopped r k n rs) = given
+unfoldable pub variablesOf : Given → Ended → List ℕ
+variablesOf g (completed a n v rs) = v
+variablesOf g (stopped r rs) = g .variables
 
-unfoldable pub usedOf : ℕ → ℕ → Ended → ℕ
-usedOf tracepoint used (completed a n v rs) = used + length (leftBytes tracepoint (completed a n v rs))
-usedOf tracepoint used (stopped r k n rs) = used
+unfoldable pub usedOf : Given → Ended → ℕ
+usedOf g (completed a n v rs) = g .used + length (leftBytes g (completed a n v rs))
+usedOf g (stopped r rs) = g .used
 
-unfoldable pub bufferOf : ℕ → List ℕ → ℕ → Ended → List ℕ
-bufferOf tracepoint buffer used o = writtenAt buffer used (leftBytes tracepoint o)
+unfoldable pub bufferOf : Given → Ended → List ℕ
+bufferOf g o = writtenAt (g .buffer) (g .used) (leftBytes g o)
 
 -- ---- the steps done, and the number of the refusal: 0 where the run completed
 unfoldable pub stepsOf : Ended → ℕ
 stepsOf (completed a n v rs) = n
-stepsOf (stopped r k n rs) = n
+stepsOf (stopped r rs) = r .steps
 
 unfoldable pub numberOf : Ended → ℕ
 numberOf (completed a n v rs) = 0
-numberOf (stopped r k n rs) = r
+numberOf (stopped r rs) = r .number

@@ -1,4 +1,5 @@
--- The operators by opcode: the GDB manual, "Bytecode Descriptions". Of two operands a is the next-to-top cell and b the top.
+-- The operators by opcode: the GDB manual, "Bytecode Descriptions". Of two operands a is the next-to-top cell and b the
+-- top.
 use mathlib.Core.Bool.{Bool, cond, _&&_}
 use Prim.Native.Nat.{ℕ}
 use lib.Dec.{eqb, leb}

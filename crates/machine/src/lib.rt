@@ -1,6 +1,9 @@
 // Document 01's machine is a definition: see specs/. The crates above follow it; here is only what makes known that its
 // inputs are what their types say.
-ghost use Rattle.machine.specs.Fed.{fed};
+ghost use mathlib.Core.List.{List};
+ghost use Prim.Native.Nat.{ℕ};
+ghost use Rattle.memory.specs.Spans.{target};
+ghost use Rattle.machine.specs.Given.{given};
 ghost use Rattle.machine.specs.Recorded.{Typed};
 
 // The inputs of any run are typed. The compiler removes the call.
@@ -11,10 +14,10 @@ pub fn typed(
     image: &[u8],
     work_first: u64,
     work: &[u8],
-    variables: &[u64; 64],
+    variables: &[u64; sizes::VARIABLE_COUNT],
     tracepoint: u16,
 )
-    ensures { λ _. ⌜ Typed (fed (now (code .entry)) (now (registers .entry)) «image_first» (now (image .entry)) «work_first» (now (work .entry))) tracepoint (now (variables .entry)) ⌝ }
+    ensures { λ _. ⌜ ((buffer : List ℕ) (used allowance : ℕ) → Typed (given (now (code .entry)) (now (registers .entry)) (now (variables .entry)) (target «image_first» (now (image .entry)) «work_first» (now (work .entry))) tracepoint buffer used allowance)) ⌝ }
 {
     encoding::bytes_known(code);
     encoding::words_known(registers);

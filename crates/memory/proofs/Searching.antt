@@ -8,8 +8,9 @@ use native.Mathlib.Omega.{arith}
 use lib.Dec.{eqb}
 use lib.ListN.{length, getD}
 use borrow.Author.Tests.{eqb-true, eqb-false}
-use Rattle.encoding.proofs.Promises.{cases, no-true}
-use Rattle.memory.specs.FirstZero.{Sought, up-to-zero, all-of-size, cut-short, past, searched, NoZero, FirstZero, Looked, Passed, Says}
+use Rattle.logic.proofs.Promises.{cases, no-true}
+use Rattle.memory.specs.FirstZero.{Sought, up-to-zero, all-of-size, cut-short, past, searched, NoZero, FirstZero, Says}
+use Rattle.memory.specs.joining.Searching.{Looked, Passed}
 use Rattle.memory.proofs.Choosing.{cond-elim}
 
 -- ---- what the outcome says

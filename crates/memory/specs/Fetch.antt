@@ -7,63 +7,60 @@ use mathlib.Core.Path.{_≡_}
 use Prim.Native.Nat.{ℕ, _+_, _-_, _<_}
 use lib.ListN.{length, take, drop, getD}
 use lib.Dec.{leb, ltb, eqb}
-use Rattle.encoding.specs.Tried.{tried}
-use Rattle.memory.specs.Spans.{InSpan, spanTests}
-use Rattle.memory.specs.declared.Held.{Held}
-use Rattle.memory.specs.declared.Held.the-variants.{InImage, InWork, Nowhere}
+use Rattle.refusals.specs.Numbers.{range-not-readable}
+use Rattle.refusals.specs.Tried.{tried}
+use Rattle.memory.specs.Spans.{Span, Target, spanEnd, InSpan, spanTests}
 
--- all of the range lies in the span of n bytes at f; a + k is a number without bound, since "addresses never wrap"
-unfoldable pub holdsRange : ℕ → ℕ → ℕ → ℕ → Bool
-holdsRange f n a k = leb f a && leb (a + k) (f + n)
+-- all of the range lies in the span; a + k is a number without bound, since "addresses never wrap"
+unfoldable pub holdsRange : Span → ℕ → ℕ → Bool
+holdsRange s a k = leb (s .first) a && leb (a + k) (spanEnd s)
 
 -- "readable exactly if all of it lies in one span"
-unfoldable pub readable : ℕ → List ℕ → ℕ → List ℕ → ℕ → ℕ → Bool
-readable f image g work a k = holdsRange f (length image) a k || holdsRange g (length work) a k
-
--- 19: "range not readable"
-abbrev pub not-readable : ℕ
-not-readable = 19
+unfoldable pub readable : Target → ℕ → ℕ → Bool
+readable t a k = holdsRange (t .image) a k || holdsRange (t .work) a k
 
 -- "12 and 13 come first"; then 19 for a range of one byte or more that is not readable
-unfoldable pub fetchRefusal : ℕ → List ℕ → ℕ → List ℕ → ℕ → ℕ → ℕ
-fetchRefusal f image g work a k = tried (spanTests f image g work ++ ((ltb 0 k && not (readable f image g work a k), not-readable) ∷ []))
+unfoldable pub fetchRefusal : Target → ℕ → ℕ → ℕ
+fetchRefusal t a k = tried (spanTests t ++ ((ltb 0 k && not (readable t a k), range-not-readable) ∷ []))
 
 -- what `of` makes of "whichever span holds them", the k bytes at a, and `none` where neither does
-abbrev pub whichever : {A : Type 0} → ℕ → List ℕ → ℕ → List ℕ → ℕ → ℕ → (ℕ → List ℕ → A) → A → A
-whichever f image g work a k of none = cond (holdsRange f (length image) a k) (of f image) (cond (holdsRange g (length work) a k) (of g work) none)
+abbrev pub whichever : {A : Type 0} → Target → ℕ → ℕ → (Span → A) → A → A
+whichever t a k of none = cond (holdsRange (t .image) a k) (of (t .image)) (cond (holdsRange (t .work) a k) (of (t .work)) none)
+
+-- the bytes of a span from the address a on, and the first k of them
+abbrev pub bytesFrom : ℕ → Span → List ℕ
+bytesFrom a s = drop (a - s .first) (s .bytes)
+
+abbrev pub bytesAt : ℕ → ℕ → Span → List ℕ
+bytesAt k a s = take k (bytesFrom a s)
 
 -- the bytes lent: those of the range; "A refused fetch .. lends an empty part too"
-unfoldable pub fetched : ℕ → List ℕ → ℕ → List ℕ → ℕ → ℕ → List ℕ
-fetched f image g work a k =
-    cond (eqb (fetchRefusal f image g work a k) 0) (whichever f image g work a k (λ first bytes. take k (drop (a - first) bytes)) []) []
+unfoldable pub fetched : Target → ℕ → ℕ → List ℕ
+fetched t a k =
+    cond (eqb (fetchRefusal t a k) 0) (whichever t a k (bytesAt k a) []) []
 
 -- a span holds the address x
-abbrev pub InTarget : ℕ → List ℕ → ℕ → List ℕ → ℕ → Type 0
-InTarget f image g work x = InSpan f (length image) x ⊎ InSpan g (length work) x
+abbrev pub InTarget : Target → ℕ → Type 0
+InTarget t x = InSpan (t .image) x ⊎ InSpan (t .work) x
 
 -- the target's byte at the address x, which a span holds (`InTarget`); 0 where none does, so that this alone does not
 -- say that there is a byte
-unfoldable pub targetByte : ℕ → List ℕ → ℕ → List ℕ → ℕ → ℕ
-targetByte f image g work x = whichever f image g work x 1 (λ first bytes. getD bytes (x - first) 0) 0
+unfoldable pub targetByte : Target → ℕ → ℕ
+targetByte t x = whichever t x 1 (λ s. getD (s .bytes) (x - s .first) 0) 0
 
 -- the bytes from the address a to the end of the span that holds it, for use where neither 12 nor 13 is met
-unfoldable pub restOf : ℕ → List ℕ → ℕ → List ℕ → ℕ → List ℕ
-restOf f image g work a = whichever f image g work a 1 (λ first bytes. drop (a - first) bytes) []
-
--- the span that holds the address a, and the index of its byte there
-unfoldable pub heldAt : ℕ → List ℕ → ℕ → List ℕ → ℕ → Held
-heldAt f image g work a =
-    cond (holdsRange f (length image) a 1) (InImage (a - f)) (cond (holdsRange g (length work) a 1) (InWork (a - g)) Nowhere)
+unfoldable pub restOf : Target → ℕ → List ℕ
+restOf t a = whichever t a 1 (bytesFrom a) []
 
 -- ---- the same of each address, with no sum: every one of the k addresses from a on lies in the span
-abbrev pub Within : ℕ → ℕ → ℕ → ℕ → Type 0
-Within f n a k = (i : ℕ) → i < k → InSpan f n (a + i)
+abbrev pub Within : Span → ℕ → ℕ → Type 0
+Within s a k = (i : ℕ) → i < k → InSpan s (a + i)
 
 -- all of the range lies in one span
-abbrev pub Readable : ℕ → List ℕ → ℕ → List ℕ → ℕ → ℕ → Type 0
-Readable f image g work a k = Within f (length image) a k ⊎ Within g (length work) a k
+abbrev pub Readable : Target → ℕ → ℕ → Type 0
+Readable t a k = Within (t .image) a k ⊎ Within (t .work) a k
 
--- a part that is the k bytes at a of the one span of the bytes l at f
-pub record PartOf (f : ℕ) (l : List ℕ) (a k : ℕ) (part : List ℕ) : Type 0 where
-  pub within : Within f (length l) a k
-  pub same : part ≡ take k (drop (a - f) l)
+-- a part that is the k bytes at a of the one span
+pub record PartOf (s : Span) (a k : ℕ) (part : List ℕ) : Type 0 where
+  pub within : Within s a k
+  pub same : part ≡ bytesAt k a s

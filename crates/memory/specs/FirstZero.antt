@@ -1,6 +1,6 @@
--- The search of tracenz: "up to and with the first zero byte, or SIZE bytes if none comes sooner" (document 01, "Meanings the manual leaves open"),
--- among bytes that may end before.
-use mathlib.Core.Bool.{Bool, true, false, cond}
+-- The search of tracenz: "up to and with the first zero byte, or SIZE bytes if none comes sooner" (document 01,
+-- "Meanings the manual leaves open"), among bytes that may end before.
+use mathlib.Core.Bool.{cond}
 use mathlib.Core.List.{List, [], _∷_}
 use mathlib.Core.Logic.{_≢_}
 use mathlib.Core.Path.{_≡_}
@@ -10,7 +10,8 @@ use lib.Dec.{eqb}
 use Rattle.memory.specs.declared.Search.{Search}
 use Rattle.memory.specs.declared.Search.the-variants.{Found, Reached, Ended}
 
--- how a search ends, and after how many bytes: "up to and with the first zero byte"; at "SIZE bytes", none of them zero; or where the bytes end before that
+-- how a search ends, and after how many bytes: "up to and with the first zero byte"; at "SIZE bytes", none of them
+-- zero; or where the bytes end before that
 pub data Sought : Type 0 where
   up-to-zero : ℕ → Sought
   all-of-size : ℕ → Sought
@@ -37,16 +38,6 @@ searched (suc size) (b ∷ l) = cond (eqb b 0) (up-to-zero 1) (past 1 (searched 
 -- none of the first n bytes is zero
 abbrev pub NoZero : ℕ → List ℕ → Type 0
 NoZero n l = (i : ℕ) → i < n → getD l i 0 ≢ 0
-
--- whether one of the n bytes from a on is zero
-pub record Looked (l : List ℕ) (a n : ℕ) (found : Bool) : Type 0 where
-  pub none : found ≡ false → (i : ℕ) → i < n → getD l (a + i) 0 ≢ 0
-  pub some : found ≡ true → (i : ℕ) × (i < n) × (getD l (a + i) 0 ≡ 0)
-
--- k bytes, n at most, are passed, and none of them is zero
-pub record Passed (l : List ℕ) (n k : ℕ) : Type 0 where
-  pub within : k ≤ n
-  pub none : NoZero k l
 
 -- the n-th byte is the first zero, and is among the first `size`
 pub record FirstZero (size : ℕ) (l : List ℕ) (n : ℕ) : Type 0 where

@@ -5,19 +5,21 @@ ghost use mathlib.Core.Bool.{true};
 ghost use mathlib.Core.Logic.{_≢_};
 ghost use Prim.Native.Nat.{_+_, _-_, _≤_, min};
 ghost use lib.ListN.{length};
-ghost use Rattle.memory.specs.Spans.{endsPast, shareAddress, spansRefusal, cleared};
-ghost use Rattle.memory.specs.Fetch.{fetchRefusal, fetched, restOf, heldAt};
-ghost use Rattle.memory.specs.FirstZero.{soughtOf, searched, Looked, Passed};
+ghost use Rattle.memory.specs.Spans.{span, target, endsPast, shareAddress, spansRefusal};
+ghost use Rattle.memory.specs.joining.Holding.{cleared, heldAt};
+ghost use Rattle.memory.specs.Fetch.{fetchRefusal, fetched, restOf};
+ghost use Rattle.memory.specs.FirstZero.{soughtOf, searched};
+ghost use Rattle.memory.specs.joining.Searching.{Looked, Passed};
 
 // ---- refusals 12 and 13
 // Where a span may be refused, `place` is cleared before the last test: the store keeps that test in a branch of its
 // own, which other spans do not enter. Without a store the compiler makes both tests of every span.
 
-// Whether first + len exceeds 2^64: the sum modulo 2^64 is then below `first`, and not 0.
-fn ends_past(first: u64, len: u64, place: &mut [u64; 2]) -> bool
-    ensures { λ r. ⌜ (r ≡ endsPast first len) × (r ≡ true → now (place .exit) ≡ cleared) ⌝ }
+// Whether first address + length exceeds 2^64: the sum modulo 2^64 is then below `first`, and not 0.
+fn ends_past(first: u64, bytes: &[u8], place: &mut [u64; 2]) -> bool
+    ensures { λ r. ⌜ (r ≡ endsPast (span first (now (bytes .entry)))) × (r ≡ true → now (place .exit) ≡ cleared) ⌝ }
 {
-    let end = std::num::wrapping_add_u64(first, len);
+    let end = std::num::wrapping_add_u64(first, bytes.len() as u64);
     if end < first {
         *place = [0, 0];
         return end != 0;
@@ -25,20 +27,20 @@ fn ends_past(first: u64, len: u64, place: &mut [u64; 2]) -> bool
     false
 }
 
-// Whether a span of n bytes at f and one of m bytes at g share an address.
-fn share_address(f: u64, n: u64, g: u64, m: u64, place: &mut [u64; 2]) -> bool
-    ensures { λ r. ⌜ (r ≡ shareAddress f n g m) × (r ≡ true → now (place .exit) ≡ cleared) ⌝ }
+// Whether the bytes s at f and the bytes r at g share an address.
+fn share_address(f: u64, s: &[u8], g: u64, r: &[u8], place: &mut [u64; 2]) -> bool
+    ensures { λ shared. ⌜ (shared ≡ shareAddress (span f (now (s .entry))) (span g (now (r .entry)))) × (shared ≡ true → now (place .exit) ≡ cleared) ⌝ }
 {
     if f <= g {
-        if g - f < n {
+        if g - f < s.len() as u64 {
             *place = [0, 0];
-            return 0 < m;
+            return 0 < r.len();
         }
         return false;
     }
-    if f - g < m {
+    if f - g < r.len() as u64 {
         *place = [0, 0];
-        return 0 < n;
+        return 0 < s.len();
     }
     false
 }
@@ -51,26 +53,24 @@ pub fn spans_refusal_clearing(
     work: &[u8],
     place: &mut [u64; 2],
 ) -> u8
-    ensures number { λ r. ⌜ r ≡ spansRefusal «image_first» (now (image .entry)) «work_first» (now (work .entry)) ⌝ }
+    ensures number { λ r. ⌜ r ≡ spansRefusal (target «image_first» (now (image .entry)) «work_first» (now (work .entry))) ⌝ }
     ensures clears { λ r. ⌜ (r ≢ 0 → now (place .exit) ≡ cleared) ⌝ }
 {
-    let image_len = image.len() as u64;
-    let work_len = work.len() as u64;
-    if ends_past(image_first, image_len, place) {
-        return 12;
+    if ends_past(image_first, image, place) {
+        return refusals::SPAN_PAST_END;
     }
-    if ends_past(work_first, work_len, place) {
-        return 12;
+    if ends_past(work_first, work, place) {
+        return refusals::SPAN_PAST_END;
     }
-    if share_address(image_first, image_len, work_first, work_len, place) {
-        return 13;
+    if share_address(image_first, image, work_first, work, place) {
+        return refusals::SPANS_SHARE;
     }
     0
 }
 
 // The same for a caller that has nothing to clear.
 pub fn spans_refusal(image_first: u64, image: &[u8], work_first: u64, work: &[u8]) -> u8
-    ensures { λ r. ⌜ r ≡ spansRefusal «image_first» (now (image .entry)) «work_first» (now (work .entry)) ⌝ }
+    ensures { λ r. ⌜ r ≡ spansRefusal (target «image_first» (now (image .entry)) «work_first» (now (work .entry))) ⌝ }
 {
     let mut place = [0, 0];
     spans_refusal_clearing(image_first, image, work_first, work, &mut place)
@@ -88,8 +88,8 @@ pub enum Held {
 // Where an address is. No span ends past 2^64, so that one comparison, of the difference modulo 2^64, tells whether a
 // span holds it. No two hold it, so that the order is free: stack and heap are asked for most, and come first.
 pub fn holder(image_first: u64, image: &[u8], work_first: u64, work: &[u8], address: u64) -> Held
-    requires { ⌜ spansRefusal «image_first» (now image) «work_first» (now work) ≡ 0 ⌝ }
-    ensures { λ r. ⌜ r ≡ heldAt «image_first» (now (image .entry)) «work_first» (now (work .entry)) address ⌝ }
+    requires { ⌜ spansRefusal (target «image_first» (now image) «work_first» (now work)) ≡ 0 ⌝ }
+    ensures { λ r. ⌜ r ≡ heldAt (target «image_first» (now (image .entry)) «work_first» (now (work .entry))) address ⌝ }
 {
     let in_work = std::num::wrapping_sub_u64(address, work_first);
     if in_work < work.len() as u64 {
@@ -111,8 +111,8 @@ pub fn rest<'a>(
     work: &'a [u8],
     address: u64,
 ) -> &'a [u8]
-    requires { ⌜ spansRefusal «image_first» (now image) «work_first» (now work) ≡ 0 ⌝ }
-    ensures { λ r. ⌜ now r ≡ restOf «image_first» (now (image .entry)) «work_first» (now (work .entry)) address ⌝ }
+    requires { ⌜ spansRefusal (target «image_first» (now image) «work_first» (now work)) ≡ 0 ⌝ }
+    ensures { λ r. ⌜ now r ≡ restOf (target «image_first» (now (image .entry)) «work_first» (now (work .entry))) address ⌝ }
 {
     match holder(image_first, image, work_first, work, address) {
         Held::InImage(at) => &image[at as usize..],
@@ -130,7 +130,7 @@ pub fn fetch_refusal<'a>(
     address: u64,
     size: u64,
 ) -> u8
-    ensures { λ r. ⌜ r ≡ fetchRefusal «image_first» (now (image .entry)) «work_first» (now (work .entry)) address size ⌝ }
+    ensures { λ r. ⌜ r ≡ fetchRefusal (target «image_first» (now (image .entry)) «work_first» (now (work .entry))) address size ⌝ }
 {
     let refusal = spans_refusal(image_first, image, work_first, work);
     if refusal != 0 {
@@ -138,7 +138,7 @@ pub fn fetch_refusal<'a>(
     }
     let rest = rest(image_first, image, work_first, work, address);
     if (rest.len() as u64) < size {
-        return 19;
+        return refusals::RANGE_NOT_READABLE;
     }
     0
 }
@@ -152,7 +152,7 @@ pub fn fetch<'a>(
     address: u64,
     size: u64,
 ) -> &'a [u8]
-    ensures { λ r. ⌜ now r ≡ fetched «image_first» (now (image .entry)) «work_first» (now (work .entry)) address size ⌝ }
+    ensures { λ r. ⌜ now r ≡ fetched (target «image_first» (now (image .entry)) «work_first» (now (work .entry))) address size ⌝ }
 {
     let refusal = fetch_refusal(image_first, image, work_first, work, address, size);
     if refusal != 0 {

@@ -1,40 +1,52 @@
--- From a place of an accepted expression to one whose class is known.
-use mathlib.Core.List.{List}
-use mathlib.Core.Path.{_≡_, ap, sym, _∙_}
+-- From an instruction of an accepted expression to one whose class is known.
+use mathlib.Core.Bool.{cond, not, _&&_}
+use mathlib.Core.List.{List, _++_}
+use mathlib.Core.Path.{_≡_, refl, ap, sym, _∙_}
 use Prim.Native.Nat.{ℕ, _+_, _-_, _≤_, _<_}
 use native.Mathlib.Omega.{arith}
 use lib.ListN.{getD, drop}
-use Rattle.isa.specs.Classes.{Class, classOf, row}
-use Rattle.isa.specs.Decode.{classAt, next}
-use Rattle.isa.specs.Held.{held}
-use Rattle.isa.proofs.Promises.{operands-class, needed-class, left-class, after-by, held-drop}
-use Rattle.operations.specs.Here.{Place, Here}
+use lib.Dec.{eqb}
+use Rattle.isa.specs.Classes.{Class, classOf, row, kind, kind-goto, kind-if-goto}
+use Rattle.isa.specs.Decode.{classAt, next, operand}
+use Rattle.isa.specs.joining.Held.{held}
+use Rattle.isa.proofs.Promises.{operands-class, needed-class, left-class, held-drop}
+use Rattle.machine.specs.Meaning.{stackAfter, offsetAfter}
+use Rattle.operations.specs.joining.Here.{StepReady, onTop, Here}
 
-pub here : {rows : List (List ℕ)} {code a : List ℕ} {at h : ℕ} → Place rows code a at h → (k : ℕ) (c : Class) → k < 53 → classOf k ≡ c → getD code at 0 ≡ k
+pub here : {rows : List (List ℕ)} {code a : List ℕ} {at h : ℕ} → StepReady rows code a at h → (k : ℕ) (c : Class) → k < 53 → classOf k ≡ c → getD code at 0 ≡ k
     → Here rows code a c k at h
 here {rows} {code} {a} {at} {h} p k c l q f =
     let w : classAt code at ≡ c = ap classOf f ∙ q in
     let n = needed-class code at c w in
-    let b = operands-class code at c w in
     record {
-      table-is = p .table-is;
-      long = p .long;
-      short = p .short;
+      lent = p .lent;
       class-is = q;
-      known = l;
+      low = l;
       found = f;
-      bytes = b;
-      inside = omega (arith, p .inside, b);
-      ext-some = rw w at (p .ext-some);
-      variable-low = rw w at (p .variable-low);
+      bytes = operands-class code at c w;
       needed-is = n;
-      cells = omega (arith, p .cells, n);
-      low = p .low;
-      room = rw (sym (after-by code at h _ _ (sym n) (sym (left-class code at c w)))) at (p .room);
+      fits = rw (w, n, left-class code at c w) at (p .ready);
     }
 
--- ---- what the row of the opcode gives
+-- where an instruction of the class goes, on the stack s
+abbrev pub offsetBy : Class → List ℕ → ℕ → List ℕ → ℕ
+offsetBy c e k s =
+    cond (eqb (kind c) kind-goto) (operand e k)
+    (cond (eqb (kind c) kind-if-goto && not (eqb (getD s 0 0) 0)) (operand e k) (next e k))
+
+-- ---- what the class gives, and the row of the opcode
 module _ {rows : List (List ℕ)} {code a : List ℕ} {c : Class} {op at h : ℕ} (p : Here rows code a c op at h) where
+  class-here : classAt code at ≡ c
+  class-here = ap classOf (p .found) ∙ p .class-is
+
+  pub offset-here : (s : List ℕ) → offsetAfter code at s ≡ offsetBy c code at s
+  unfolding offsetAfter
+  offset-here s = rw class-here refl
+
+  pub stack-here : (s cells : List ℕ) → stackAfter code at s cells ≡ cells ++ drop (getD (row c) 1 0 + onTop c code at) s
+  unfolding stackAfter
+  stack-here s cells = rw (p .needed-is) refl
+
   -- the next start
   pub next-here : {r : ℕ} → r ≡ at + 1 + getD (row (classOf op)) 0 0 → r ≡ next code at
   next-here e = e ∙ ap (λ (x : ℕ). at + 1 + getD (row (classOf x)) 0 0) (sym (p .found))
@@ -45,7 +57,7 @@ module _ {rows : List (List ℕ)} {code a : List ℕ} {c : Class} {op at h : ℕ
 
   -- they are there
   pub cells-here : getD (row (classOf op)) 1 0 ≤ h
-  cells-here = rw (p .class-is) (omega (arith, p .cells))
+  cells-here = rw (p .class-is) (omega (arith, p .fits .cells))
 
   -- the height after, where no cell is left and where as many are left as are needed
   module _ {r : ℕ} (e : r ≡ h - getD (row (classOf op)) 1 0 + getD (row (classOf op)) 2 0) where
@@ -55,7 +67,7 @@ module _ {rows : List (List ℕ)} {code a : List ℕ} {c : Class} {op at h : ℕ
     pub taken-here : getD (row c) 2 0 ≡ 0 → held a r ≡ drop (getD (row c) 1 0) (held a h)
     taken-here z =
         let g : r ≡ h - getD (row c) 1 0 = omega (arith, height-here, z) in
-        ap (held a) g ∙ held-drop a h (getD (row c) 1 0) (omega (arith, p .cells))
+        ap (held a) g ∙ held-drop a h (getD (row c) 1 0) (omega (arith, p .fits .cells))
 
     pub same-here : getD (row c) 1 0 ≡ getD (row c) 2 0 → r ≡ h
-    same-here q = omega (arith, height-here, q, p .cells)
+    same-here q = omega (arith, height-here, q, p .fits .cells)

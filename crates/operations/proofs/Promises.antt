@@ -1,27 +1,40 @@
 -- What users of `operations` may cite, besides the contracts of src/lib.rt.
-use mathlib.Core.List.{List}
+use mathlib.Core.List.{List, _++_}
 use mathlib.Core.Path.{_≡_}
-use Prim.Native.Nat.{ℕ, _<_}
-use lib.ListN.{getD}
-use Rattle.isa.specs.Classes.{Class, classOf}
-use Rattle.machine.specs.Fed.{Fed}
-use Rattle.machine.specs.Meaning.{binaryDone, refDone, regDone}
-use Rattle.operations.specs.Here.{Place, Here}
-use Rattle.operations.specs.Moved.{Quiet}
+use Prim.Native.Nat.{ℕ, _+_, _-_, _≤_, _<_}
+use lib.ListN.{getD, drop}
+use Rattle.isa.specs.Classes.{Class, classOf, row}
+use Rattle.isa.specs.Decode.{next}
+use Rattle.isa.specs.joining.Held.{held}
+use Rattle.machine.specs.Meaning.{stackAfter, offsetAfter}
+use Rattle.operations.specs.joining.Here.{StepReady, onTop, Here}
 use Rattle.operations.proofs.Placing as placing
-use Rattle.operations.proofs.Cases as cases
+-- offsetBy c e k s: where the instruction of e at k goes, on the stack s, if its class is c
+pub use Rattle.operations.proofs.Placing.{offsetBy}
 
--- the place of an instruction whose opcode and class are known
-pub here : {rows : List (List ℕ)} {code a : List ℕ} {at h : ℕ} → Place rows code a at h → (k : ℕ) (c : Class) → k < 53 → classOf k ≡ c → getD code at 0 ≡ k
+-- an instruction whose opcode and class are known
+pub here : {rows : List (List ℕ)} {code a : List ℕ} {at h : ℕ} → StepReady rows code a at h → (k : ℕ) (c : Class) → k < 53 → classOf k ≡ c → getD code at 0 ≡ k
     → Here rows code a c k at h
 here = placing.here
 
--- these record nothing
-pub binary-quiet : (op a b : ℕ) → Quiet (binaryDone op a b)
-binary-quiet = cases.binary-quiet
+module _ {rows : List (List ℕ)} {code a : List ℕ} {c : Class} {op at h : ℕ} (p : Here rows code a c op at h) where
+  -- ---- what its class gives: the machine's next offset and its stack
+  pub offset-here : (s : List ℕ) → offsetAfter code at s ≡ offsetBy c code at s
+  offset-here = placing.offset-here p
 
-pub ref-quiet : (m : Fed) (n a : ℕ) → Quiet (refDone m n a)
-ref-quiet = cases.ref-quiet
+  pub stack-here : (s cells : List ℕ) → stackAfter code at s cells ≡ cells ++ drop (getD (row c) 1 0 + onTop c code at) s
+  stack-here = placing.stack-here p
 
-pub reg-quiet : (m : Fed) (n : ℕ) → Quiet (regDone m n)
-reg-quiet = cases.reg-quiet
+  -- ---- what the row of the opcode gives: the next start, the cells needed, which are there, and the height after,
+  -- where no cell is left
+  pub next-here : {r : ℕ} → r ≡ at + 1 + getD (row (classOf op)) 0 0 → r ≡ next code at
+  next-here = placing.next-here p
+
+  pub needed-here : {r : ℕ} → r ≡ getD (row (classOf op)) 1 0 → r ≡ getD (row c) 1 0
+  needed-here = placing.needed-here p
+
+  pub cells-here : getD (row (classOf op)) 1 0 ≤ h
+  cells-here = placing.cells-here p
+
+  pub taken-here : {r : ℕ} → r ≡ h - getD (row (classOf op)) 1 0 + getD (row (classOf op)) 2 0 → getD (row c) 2 0 ≡ 0 → held a r ≡ drop (getD (row c) 1 0) (held a h)
+  taken-here = placing.taken-here p

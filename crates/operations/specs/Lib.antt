@@ -1,3 +1,2 @@
--- What the functions of `operations` are asked and give.
-pub mod Here
-pub mod Moved
+-- What the functions of `operations` do is the machine's (crate `machine`); here is only what joins them to it.
+pub mod joining

@@ -1,23 +1,21 @@
 // The instructions that neither record nor set a variable by themselves, one function for each class. Each is lent the
 // cells and told the height; it says nothing of steps, allowance or records so far.
-ghost use mathlib.Core.Bool.{cond, false};
-ghost use mathlib.Core.List.{_∷_, []};
+ghost use mathlib.Core.Bool.{false};
 ghost use mathlib.Core.Path.{_≡_};
 ghost use Prim.Native.Nat.{_+_, _-_, _≤_, _<_};
-ghost use lib.ListN.{getD, set, take};
-ghost use lib.Dec.{eqb};
+ghost use lib.ListN.{getD, set};
+ghost use Rattle.sizes.specs.Sizes.{«expression-most», «stack-cells»};
 ghost use Rattle.isa.specs.Classes.{binary, unary, ref, ext, «zero-ext», setv, «if-goto», goto, constant, reg, getv, dup, pop, swap, pick, rot, classOf, row};
-ghost use Rattle.isa.specs.Decode.{next, operand};
-ghost use Rattle.isa.specs.Held.{held};
-ghost use Rattle.isa.specs.Rows.{table};
-ghost use Rattle.arithmetic.specs.Words.{ext as extended, zeroExt as zeroExtended};
-ghost use Rattle.memory.specs.Spans.{spansRefusal};
-ghost use Rattle.machine.specs.Fed.{fed};
+ghost use Rattle.isa.specs.Decode.{operand};
+ghost use Rattle.isa.specs.joining.Held.{held};
+ghost use Rattle.isa.specs.joining.Rows.{table};
+ghost use Rattle.memory.specs.Spans.{target, spansRefusal};
 ghost use Rattle.machine.specs.Words.{binaryWord, zeroDivisor, unaryWord};
-ghost use Rattle.machine.specs.Meaning.{leaves, binaryDone, refDone, regDone};
-ghost use Rattle.operations.specs.Here.{Here};
-ghost use Rattle.operations.specs.Moved.{Moved};
+ghost use Rattle.machine.specs.Meaning.{binaryDone, unaryDone, extDone, zeroExtDone, refDone, constantDone, regDone, getvDone, setvDone, nothingLeft, dupDone, swapDone, pickDone, rotDone};
+ghost use Rattle.operations.specs.joining.Here.{Here};
+ghost use Rattle.operations.specs.joining.Did.{DidCells};
 use isa::Stack;
+use isa::opcode;
 
 // What an instruction leaves: the next offset, the height, the end of what is written, and 0, or 1 at an end, or a
 // refusal's number.
@@ -31,7 +29,7 @@ pub struct Next {
 // The next start, by the row of the opcode. A caller names the opcode by a literal, so that the row is known when this
 // is compiled.
 pub fn next_of(rows: &[[u8; 4]; 53], opcode: u8, at: usize) -> usize
-    requires { ⌜ now rows ≡ table ⌝ ∗ ⌜ opcode < 53 ⌝ ∗ ⌜ at < 1024 ⌝ }
+    requires { ⌜ now rows ≡ table ⌝ ∗ ⌜ opcode < 53 ⌝ ∗ ⌜ at < expression-most ⌝ }
     ensures { λ r. ⌜ r ≡ at + 1 + getD (row (classOf opcode)) 0 0 ⌝ }
 {
     let row = isa::known_row(rows, opcode);
@@ -49,7 +47,7 @@ pub fn needed_of(rows: &[[u8; 4]; 53], opcode: u8) -> usize
 
 // The height after the instruction, by the row of the opcode: cells needed are taken, cells left come in their place.
 pub fn height_of(rows: &[[u8; 4]; 53], opcode: u8, height: usize) -> usize
-    requires { ⌜ now rows ≡ table ⌝ ∗ ⌜ opcode < 53 ⌝ ∗ ⌜ getD (row (classOf opcode)) 1 0 ≤ height ⌝ ∗ ⌜ height ≤ 64 ⌝ }
+    requires { ⌜ now rows ≡ table ⌝ ∗ ⌜ opcode < 53 ⌝ ∗ ⌜ getD (row (classOf opcode)) 1 0 ≤ height ⌝ ∗ ⌜ height ≤ stack-cells ⌝ }
     ensures { λ r. ⌜ r ≡ height - getD (row (classOf opcode)) 1 0 + getD (row (classOf opcode)) 2 0 ⌝ }
 {
     let row = isa::known_row(rows, opcode);
@@ -63,10 +61,10 @@ fn is_zero_divisor(opcode: u8, b: u64) -> bool
     if b != 0 {
         return false;
     }
-    if opcode < 0x05 {
+    if opcode < opcode::DIV_SIGNED {
         return false;
     }
-    opcode <= 0x08
+    opcode <= opcode::REM_UNSIGNED
 }
 
 fn binary_word(opcode: u8, a: u64, b: u64) -> u64
@@ -74,21 +72,21 @@ fn binary_word(opcode: u8, a: u64, b: u64) -> u64
     ensures { λ r. ⌜ r ≡ binaryWord opcode a b ⌝ }
 {
     match opcode {
-        0x02 => arithmetic::add(a, b),
-        0x03 => arithmetic::sub(a, b),
-        0x04 => arithmetic::mul(a, b),
-        0x05 => arithmetic::div_signed(a, b),
-        0x06 => arithmetic::div_unsigned(a, b),
-        0x07 => arithmetic::rem_signed(a, b),
-        0x08 => arithmetic::rem_unsigned(a, b),
-        0x09 => arithmetic::lsh(a, b),
-        0x0a => arithmetic::rsh_signed(a, b),
-        0x0b => arithmetic::rsh_unsigned(a, b),
-        0x0f => arithmetic::bit_and(a, b),
-        0x10 => arithmetic::bit_or(a, b),
-        0x11 => arithmetic::bit_xor(a, b),
-        0x13 => arithmetic::equal(a, b),
-        0x14 => arithmetic::less_signed(a, b),
+        opcode::ADD => arithmetic::add(a, b),
+        opcode::SUB => arithmetic::sub(a, b),
+        opcode::MUL => arithmetic::mul(a, b),
+        opcode::DIV_SIGNED => arithmetic::div_signed(a, b),
+        opcode::DIV_UNSIGNED => arithmetic::div_unsigned(a, b),
+        opcode::REM_SIGNED => arithmetic::rem_signed(a, b),
+        opcode::REM_UNSIGNED => arithmetic::rem_unsigned(a, b),
+        opcode::LSH => arithmetic::lsh(a, b),
+        opcode::RSH_SIGNED => arithmetic::rsh_signed(a, b),
+        opcode::RSH_UNSIGNED => arithmetic::rsh_unsigned(a, b),
+        opcode::BIT_AND => arithmetic::bit_and(a, b),
+        opcode::BIT_OR => arithmetic::bit_or(a, b),
+        opcode::BIT_XOR => arithmetic::bit_xor(a, b),
+        opcode::EQUAL => arithmetic::equal(a, b),
+        opcode::LESS_SIGNED => arithmetic::less_signed(a, b),
         _ => arithmetic::less_unsigned(a, b),
     }
 }
@@ -96,7 +94,7 @@ fn binary_word(opcode: u8, a: u64, b: u64) -> u64
 fn unary_word(opcode: u8, a: u64) -> u64
     ensures { λ r. ⌜ r ≡ unaryWord opcode a ⌝ }
 {
-    if opcode == 0x0e {
+    if opcode == opcode::LOG_NOT {
         return arithmetic::log_not(a);
     }
     arithmetic::bit_not(a)
@@ -113,7 +111,7 @@ pub fn do_binary(
     put: usize,
 ) -> Next
     requires { ⌜ Here (now rows) (now code) (now cells) binary opcode at height ⌝ }
-    ensures { λ r. ⌜ Moved at put (held (now (cells .entry)) height) (binaryDone opcode (getD (held (now (cells .entry)) height) 1 0) (getD (held (now (cells .entry)) height) 0 0)) (next (now (code .entry)) at) 2 r (now (cells .exit)) ⌝ }
+    ensures { λ r. ⌜ DidCells (now (code .entry)) at put (held (now (cells .entry)) height) (binaryDone opcode (held (now (cells .entry)) height)) r (now (cells .exit)) ⌝ }
 {
     let next = next_of(rows, opcode, at);
     let b = Stack::below(cells, height, 0);
@@ -123,7 +121,7 @@ pub fn do_binary(
             at,
             height,
             put,
-            stop: 17,
+            stop: refusals::DIVISOR_ZERO,
         };
     }
     let word = binary_word(opcode, a, b);
@@ -148,7 +146,7 @@ pub fn do_unary(
     put: usize,
 ) -> Next
     requires { ⌜ Here (now rows) (now code) (now cells) unary opcode at height ⌝ }
-    ensures { λ r. ⌜ Moved at put (held (now (cells .entry)) height) (leaves (unaryWord opcode (getD (held (now (cells .entry)) height) 0 0) ∷ []) []) (next (now (code .entry)) at) 1 r (now (cells .exit)) ⌝ }
+    ensures { λ r. ⌜ DidCells (now (code .entry)) at put (held (now (cells .entry)) height) (unaryDone opcode (held (now (cells .entry)) height)) r (now (cells .exit)) ⌝ }
 {
     let next = next_of(rows, opcode, at);
     let a = Stack::below(cells, height, 0);
@@ -172,14 +170,14 @@ pub fn do_ext(
     height: usize,
     put: usize,
 ) -> Next
-    requires { ⌜ Here (now rows) (now code) (now cells) ext 22 at height ⌝ }
-    ensures { λ r. ⌜ Moved at put (held (now (cells .entry)) height) (leaves (extended (getD (held (now (cells .entry)) height) 0 0) (operand (now (code .entry)) at) ∷ []) []) (next (now (code .entry)) at) 1 r (now (cells .exit)) ⌝ }
+    requires { ⌜ Here (now rows) (now code) (now cells) ext 0x16 at height ⌝ }
+    ensures { λ r. ⌜ DidCells (now (code .entry)) at put (held (now (cells .entry)) height) (extDone (operand (now (code .entry)) at) (held (now (cells .entry)) height)) r (now (cells .exit)) ⌝ }
 {
-    let next = next_of(rows, 0x16, at);
+    let next = next_of(rows, opcode::EXT, at);
     let n = isa::operand_at(code, at, 1);
     let a = Stack::below(cells, height, 0);
     let word = arithmetic::ext(a, n);
-    let needed = needed_of(rows, 0x16);
+    let needed = needed_of(rows, opcode::EXT);
     let after = Stack::replace(cells, height, needed, word);
     Next {
         at: next,
@@ -198,14 +196,14 @@ pub fn do_zero_ext(
     height: usize,
     put: usize,
 ) -> Next
-    requires { ⌜ Here (now rows) (now code) (now cells) zero-ext 42 at height ⌝ }
-    ensures { λ r. ⌜ Moved at put (held (now (cells .entry)) height) (leaves (zeroExtended (getD (held (now (cells .entry)) height) 0 0) (operand (now (code .entry)) at) ∷ []) []) (next (now (code .entry)) at) 1 r (now (cells .exit)) ⌝ }
+    requires { ⌜ Here (now rows) (now code) (now cells) zero-ext 0x2a at height ⌝ }
+    ensures { λ r. ⌜ DidCells (now (code .entry)) at put (held (now (cells .entry)) height) (zeroExtDone (operand (now (code .entry)) at) (held (now (cells .entry)) height)) r (now (cells .exit)) ⌝ }
 {
-    let next = next_of(rows, 0x2a, at);
+    let next = next_of(rows, opcode::ZERO_EXT, at);
     let n = isa::operand_at(code, at, 1);
     let a = Stack::below(cells, height, 0);
     let word = arithmetic::zero_ext(a, n);
-    let needed = needed_of(rows, 0x2a);
+    let needed = needed_of(rows, opcode::ZERO_EXT);
     let after = Stack::replace(cells, height, needed, word);
     Next {
         at: next,
@@ -231,8 +229,8 @@ pub fn do_ref<'a>(
     height: usize,
     put: usize,
 ) -> Next
-    requires { ⌜ Here (now rows) (now code) (now cells) (ref count) opcode at height ⌝ ∗ ⌜ (1 ≤ count) × (count ≤ 8) × (spansRefusal «image_first» (now image) «work_first» (now work) ≡ 0) ⌝ }
-    ensures { λ r. ⌜ Moved at put (held (now (cells .entry)) height) (refDone (fed (now (code .entry)) [] «image_first» (now (image .entry)) «work_first» (now (work .entry))) count (getD (held (now (cells .entry)) height) 0 0)) (next (now (code .entry)) at) 1 r (now (cells .exit)) ⌝ }
+    requires { ⌜ Here (now rows) (now code) (now cells) (ref count) opcode at height ⌝ ∗ ⌜ (1 ≤ count) × (count ≤ 8) × (spansRefusal (target «image_first» (now image) «work_first» (now work)) ≡ 0) ⌝ }
+    ensures { λ r. ⌜ DidCells (now (code .entry)) at put (held (now (cells .entry)) height) (refDone (target «image_first» (now (image .entry)) «work_first» (now (work .entry))) count (held (now (cells .entry)) height)) r (now (cells .exit)) ⌝ }
 {
     let next = next_of(rows, opcode, at);
     let address = Stack::below(cells, height, 0);
@@ -242,7 +240,7 @@ pub fn do_ref<'a>(
             at,
             height,
             put,
-            stop: 19,
+            stop: refusals::RANGE_NOT_READABLE,
         };
     }
     let word = encoding::little_endian(&rest[0..count]);
@@ -268,7 +266,7 @@ pub fn do_constant(
     put: usize,
 ) -> Next
     requires { ⌜ Here (now rows) (now code) (now cells) (constant count) opcode at height ⌝ }
-    ensures { λ r. ⌜ Moved at put (held (now (cells .entry)) height) (leaves ((operand (now (code .entry)) at) ∷ []) []) (next (now (code .entry)) at) 0 r (now (cells .exit)) ⌝ }
+    ensures { λ r. ⌜ DidCells (now (code .entry)) at put (held (now (cells .entry)) height) (constantDone (operand (now (code .entry)) at)) r (now (cells .exit)) ⌝ }
 {
     let next = next_of(rows, opcode, at);
     let word = isa::operand_at(code, at, count);
@@ -292,21 +290,21 @@ pub fn do_reg(
     height: usize,
     put: usize,
 ) -> Next
-    requires { ⌜ Here (now rows) (now code) (now cells) reg 38 at height ⌝ }
-    ensures { λ r. ⌜ Moved at put (held (now (cells .entry)) height) (regDone (fed (now (code .entry)) (now (registers .entry)) 0 [] 0 []) (operand (now (code .entry)) at)) (next (now (code .entry)) at) 0 r (now (cells .exit)) ⌝ }
+    requires { ⌜ Here (now rows) (now code) (now cells) reg 0x26 at height ⌝ }
+    ensures { λ r. ⌜ DidCells (now (code .entry)) at put (held (now (cells .entry)) height) (regDone (now (registers .entry)) (operand (now (code .entry)) at)) r (now (cells .exit)) ⌝ }
 {
-    let next = next_of(rows, 0x26, at);
+    let next = next_of(rows, opcode::REG, at);
     let n = isa::operand_at(code, at, 2) as usize;
     if registers.len() <= n {
         return Next {
             at,
             height,
             put,
-            stop: 18,
+            stop: refusals::REGISTER_NOT_LENT,
         };
     }
     let word = registers[n];
-    let needed = needed_of(rows, 0x26);
+    let needed = needed_of(rows, opcode::REG);
     let after = Stack::replace(cells, height, needed, word);
     Next {
         at: next,
@@ -321,18 +319,18 @@ pub fn do_getv(
     rows: &[[u8; 4]; 53],
     code: &[u8],
     cells: &mut [u64; Stack::DEPTH],
-    variables: &[u64; 64],
+    variables: &[u64; sizes::VARIABLE_COUNT],
     at: usize,
     height: usize,
     put: usize,
 ) -> Next
-    requires { ⌜ Here (now rows) (now code) (now cells) getv 44 at height ⌝ }
-    ensures { λ r. ⌜ Moved at put (held (now (cells .entry)) height) (leaves (getD (now (variables .entry)) (operand (now (code .entry)) at) 0 ∷ []) []) (next (now (code .entry)) at) 0 r (now (cells .exit)) ⌝ }
+    requires { ⌜ Here (now rows) (now code) (now cells) getv 0x2c at height ⌝ }
+    ensures { λ r. ⌜ DidCells (now (code .entry)) at put (held (now (cells .entry)) height) (getvDone (now (variables .entry)) (operand (now (code .entry)) at)) r (now (cells .exit)) ⌝ }
 {
-    let next = next_of(rows, 0x2c, at);
+    let next = next_of(rows, opcode::GETV, at);
     let n = isa::operand_at(code, at, 2) as usize;
     let word = variables[n];
-    let needed = needed_of(rows, 0x2c);
+    let needed = needed_of(rows, opcode::GETV);
     let after = Stack::replace(cells, height, needed, word);
     Next {
         at: next,
@@ -347,20 +345,20 @@ pub fn do_setv(
     rows: &[[u8; 4]; 53],
     code: &[u8],
     cells: &[u64; Stack::DEPTH],
-    variables: &mut [u64; 64],
+    variables: &mut [u64; sizes::VARIABLE_COUNT],
     at: usize,
     height: usize,
     put: usize,
 ) -> Next
-    requires { ⌜ Here (now rows) (now code) (now cells) setv 45 at height ⌝ }
-    ensures moved { λ r. ⌜ Moved at put (held (now (cells .entry)) height) (leaves (getD (held (now (cells .entry)) height) 0 0 ∷ []) []) (next (now (code .entry)) at) 1 r (now (cells .entry)) ⌝ }
+    requires { ⌜ Here (now rows) (now code) (now cells) setv 0x2d at height ⌝ }
+    ensures moved { λ r. ⌜ DidCells (now (code .entry)) at put (held (now (cells .entry)) height) (setvDone (held (now (cells .entry)) height)) r (now (cells .entry)) ⌝ }
     ensures set { λ _. ⌜ now (variables .exit) ≡ set (now (variables .entry)) (operand (now (code .entry)) at) (getD (held (now (cells .entry)) height) 0 0) ⌝ }
 {
-    let next = next_of(rows, 0x2d, at);
+    let next = next_of(rows, opcode::SETV, at);
     let n = isa::operand_at(code, at, 2) as usize;
     let word = Stack::below(cells, height, 0);
     variables[n] = word;
-    let after = height_of(rows, 0x2d, height);
+    let after = height_of(rows, opcode::SETV, height);
     Next {
         at: next,
         height: after,
@@ -378,11 +376,11 @@ pub fn do_goto(
     height: usize,
     put: usize,
 ) -> Next
-    requires { ⌜ Here (now rows) (now code) (now cells) goto 33 at height ⌝ }
-    ensures { λ r. ⌜ Moved at put (held (now (cells .entry)) height) (leaves [] []) (operand (now (code .entry)) at) 0 r (now (cells .entry)) ⌝ }
+    requires { ⌜ Here (now rows) (now code) (now cells) goto 0x21 at height ⌝ }
+    ensures { λ r. ⌜ DidCells (now (code .entry)) at put (held (now (cells .entry)) height) nothingLeft r (now (cells .entry)) ⌝ }
 {
     let target = isa::operand_at(code, at, 2) as usize;
-    let after = height_of(rows, 0x21, height);
+    let after = height_of(rows, opcode::GOTO, height);
     Next {
         at: target,
         height: after,
@@ -400,13 +398,13 @@ pub fn do_if_goto(
     height: usize,
     put: usize,
 ) -> Next
-    requires { ⌜ Here (now rows) (now code) (now cells) if-goto 32 at height ⌝ }
-    ensures { λ r. ⌜ Moved at put (held (now (cells .entry)) height) (leaves [] []) (cond (eqb (getD (held (now (cells .entry)) height) 0 0) 0) (next (now (code .entry)) at) (operand (now (code .entry)) at)) 1 r (now (cells .entry)) ⌝ }
+    requires { ⌜ Here (now rows) (now code) (now cells) if-goto 0x20 at height ⌝ }
+    ensures { λ r. ⌜ DidCells (now (code .entry)) at put (held (now (cells .entry)) height) nothingLeft r (now (cells .entry)) ⌝ }
 {
     let cell = Stack::below(cells, height, 0);
-    let after = height_of(rows, 0x20, height);
+    let after = height_of(rows, opcode::IF_GOTO, height);
     if cell == 0 {
-        let next = next_of(rows, 0x20, at);
+        let next = next_of(rows, opcode::IF_GOTO, at);
         return Next {
             at: next,
             height: after,
@@ -432,12 +430,12 @@ pub fn do_dup(
     height: usize,
     put: usize,
 ) -> Next
-    requires { ⌜ Here (now rows) (now code) (now cells) dup 40 at height ⌝ }
-    ensures { λ r. ⌜ Moved at put (held (now (cells .entry)) height) (leaves ((getD (held (now (cells .entry)) height) 0 0) ∷ (getD (held (now (cells .entry)) height) 0 0) ∷ []) []) (next (now (code .entry)) at) 1 r (now (cells .exit)) ⌝ }
+    requires { ⌜ Here (now rows) (now code) (now cells) dup 0x28 at height ⌝ }
+    ensures { λ r. ⌜ DidCells (now (code .entry)) at put (held (now (cells .entry)) height) (dupDone (held (now (cells .entry)) height)) r (now (cells .exit)) ⌝ }
 {
-    let next = next_of(rows, 0x28, at);
+    let next = next_of(rows, opcode::DUP, at);
     let a = Stack::below(cells, height, 0);
-    let needed = needed_of(rows, 0x28);
+    let needed = needed_of(rows, opcode::DUP);
     let lower = Stack::replace(cells, height, needed, a);
     let after = Stack::replace(cells, lower, 0, a);
     Next {
@@ -457,11 +455,11 @@ pub fn do_pop(
     height: usize,
     put: usize,
 ) -> Next
-    requires { ⌜ Here (now rows) (now code) (now cells) pop 41 at height ⌝ }
-    ensures { λ r. ⌜ Moved at put (held (now (cells .entry)) height) (leaves [] []) (next (now (code .entry)) at) 1 r (now (cells .entry)) ⌝ }
+    requires { ⌜ Here (now rows) (now code) (now cells) pop 0x29 at height ⌝ }
+    ensures { λ r. ⌜ DidCells (now (code .entry)) at put (held (now (cells .entry)) height) nothingLeft r (now (cells .entry)) ⌝ }
 {
-    let next = next_of(rows, 0x29, at);
-    let after = height_of(rows, 0x29, height);
+    let next = next_of(rows, opcode::POP, at);
+    let after = height_of(rows, opcode::POP, height);
     Next {
         at: next,
         height: after,
@@ -479,13 +477,13 @@ pub fn do_swap(
     height: usize,
     put: usize,
 ) -> Next
-    requires { ⌜ Here (now rows) (now code) (now cells) swap 43 at height ⌝ }
-    ensures { λ r. ⌜ Moved at put (held (now (cells .entry)) height) (leaves ((getD (held (now (cells .entry)) height) 1 0) ∷ (getD (held (now (cells .entry)) height) 0 0) ∷ []) []) (next (now (code .entry)) at) 2 r (now (cells .exit)) ⌝ }
+    requires { ⌜ Here (now rows) (now code) (now cells) swap 0x2b at height ⌝ }
+    ensures { λ r. ⌜ DidCells (now (code .entry)) at put (held (now (cells .entry)) height) (swapDone (held (now (cells .entry)) height)) r (now (cells .exit)) ⌝ }
 {
-    let next = next_of(rows, 0x2b, at);
+    let next = next_of(rows, opcode::SWAP, at);
     let b = Stack::below(cells, height, 0);
     let a = Stack::below(cells, height, 1);
-    let needed = needed_of(rows, 0x2b);
+    let needed = needed_of(rows, opcode::SWAP);
     let lower = Stack::replace(cells, height, needed, b);
     let after = Stack::replace(cells, lower, 0, a);
     Next {
@@ -505,10 +503,10 @@ pub fn do_pick(
     height: usize,
     put: usize,
 ) -> Next
-    requires { ⌜ Here (now rows) (now code) (now cells) pick 50 at height ⌝ }
-    ensures { λ r. ⌜ Moved at put (held (now (cells .entry)) height) (leaves (getD (held (now (cells .entry)) height) (operand (now (code .entry)) at) 0 ∷ take ((operand (now (code .entry)) at) + 1) (held (now (cells .entry)) height)) []) (next (now (code .entry)) at) ((operand (now (code .entry)) at) + 1) r (now (cells .exit)) ⌝ }
+    requires { ⌜ Here (now rows) (now code) (now cells) pick 0x32 at height ⌝ }
+    ensures { λ r. ⌜ DidCells (now (code .entry)) at put (held (now (cells .entry)) height) (pickDone (operand (now (code .entry)) at) (held (now (cells .entry)) height)) r (now (cells .exit)) ⌝ }
 {
-    let next = next_of(rows, 0x32, at);
+    let next = next_of(rows, opcode::PICK, at);
     let n = isa::operand_at(code, at, 1) as usize;
     let a = Stack::below(cells, height, n);
     let after = Stack::replace(cells, height, 0, a);
@@ -529,14 +527,14 @@ pub fn do_rot(
     height: usize,
     put: usize,
 ) -> Next
-    requires { ⌜ Here (now rows) (now code) (now cells) rot 51 at height ⌝ }
-    ensures { λ r. ⌜ Moved at put (held (now (cells .entry)) height) (leaves ((getD (held (now (cells .entry)) height) 1 0) ∷ (getD (held (now (cells .entry)) height) 2 0) ∷ (getD (held (now (cells .entry)) height) 0 0) ∷ []) []) (next (now (code .entry)) at) 3 r (now (cells .exit)) ⌝ }
+    requires { ⌜ Here (now rows) (now code) (now cells) rot 0x33 at height ⌝ }
+    ensures { λ r. ⌜ DidCells (now (code .entry)) at put (held (now (cells .entry)) height) (rotDone (held (now (cells .entry)) height)) r (now (cells .exit)) ⌝ }
 {
-    let next = next_of(rows, 0x33, at);
+    let next = next_of(rows, opcode::ROT, at);
     let c = Stack::below(cells, height, 0);
     let b = Stack::below(cells, height, 1);
     let a = Stack::below(cells, height, 2);
-    let needed = needed_of(rows, 0x33);
+    let needed = needed_of(rows, opcode::ROT);
     let first = Stack::replace(cells, height, needed, c);
     let second = Stack::replace(cells, first, 0, a);
     let after = Stack::replace(cells, second, 0, b);

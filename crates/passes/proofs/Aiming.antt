@@ -12,16 +12,17 @@ use native.Mathlib.Decide.{ℕ-discrete}
 use lib.ListN.{getD, length, take, drop, drop-of-length-le}
 use lib.Seq.{getD-take, drop-cons, length-take-le}
 use borrow.Author.Tests.{le-leb, lt-leb}
-use Rattle.isa.specs.Classes.{member}
+use Rattle.logic.specs.Tests.{member}
+use Rattle.refusals.specs.Refusal.{refusal}
 use Rattle.isa.specs.Decode.{operand, jumps}
 use Rattle.isa.specs.Starts.{starts, isStart}
-use Rattle.verdict.proofs.Faults.{f-other}
-use Rattle.isa.proofs.Promises.{member-here, member-there, start-below}
+use Rattle.verdict.proofs.Deciding.{f-other, first-nil, first-ok, first-fault}
+use Rattle.logic.proofs.Promises.{member-here, member-there}
+use Rattle.isa.proofs.Promises.{start-below}
 use Rattle.verdict.specs.Fault.{none, fault, first}
 use Rattle.verdict.specs.Pass2.{fault2, pass2}
-use Rattle.passes.specs.Tables.{Marked, jumpsAmong, jumpStarts, Noted, aimOf}
-use Rattle.passes.specs.declared.Aim.the-variants.{Fine, Fault as Aim·Fault}
-use Rattle.verdict.proofs.Decoded.{first-nil, first-ok, first-fault}
+use Rattle.passes.specs.joining.Tables.{Marked, jumpsAmong, jumpStarts, JumpsNoted, aimOf}
+use Rattle.passes.specs.declared.pass2.AimEnd.the-variants.{Fine, Refused as AimEnd·Refused}
 
 -- ---- the table of marks
 -- the mark that the table has at t says whether u, which equals t, is a start
@@ -69,11 +70,11 @@ pub record Aiming (e : List ℕ) (n : ℕ) (a : List ℕ) (i : ℕ) : Type 0 whe
   pub within : i ≤ n
   pub same : first (fault2 e) (drop i (take n a)) ≡ pass2 e
 
-pub aiming-start : {e : List ℕ} {n : ℕ} {a : List ℕ} → Noted e a n → Aiming e n a 0
+pub aiming-start : {e : List ℕ} {n : ℕ} {a : List ℕ} → JumpsNoted e a n → Aiming e n a 0
 aiming-start {e} s = record { within = omega arith; same = ap (first (fault2 e)) (s .same) ∙ first-jumps e (starts e) }
 
 -- what is noted at i is a start, and a jump
-pub noted-at : {e : List ℕ} {n : ℕ} {a : List ℕ} → Noted e a n → (i : ℕ) → i < n → (isStart e (getD a i 0) ≡ true) × (jumps e (getD a i 0) ≡ true)
+pub noted-at : {e : List ℕ} {n : ℕ} {a : List ℕ} → JumpsNoted e a n → (i : ℕ) → i < n → (isStart e (getD a i 0) ≡ true) × (jumps e (getD a i 0) ≡ true)
 unfolding isStart
 noted-at {e} {n} {a} s i h =
     let l : i < length (jumpStarts e) = omega (arith, length-take-le n a (s .room), ap length (s .same)) in
@@ -90,13 +91,13 @@ module _ {e : List ℕ} {n : ℕ} {a : List ℕ} {i : ℕ} (room : n ≤ length 
     same = sym (first-ok (fault2 e) (getD a i 0) (drop (i + 1) (take n a)) f) ∙ rw (here h) at (s .same);
   }
 
-  pub aiming-fault : {r k : ℕ} → i < n → k ≡ getD a i 0 → r ≡ fault2 e k → r ≢ 0 → Aim·Fault r k ≡ aimOf (pass2 e)
+  pub aiming-fault : {r k : ℕ} → i < n → k ≡ getD a i 0 → r ≡ fault2 e k → r ≢ 0 → AimEnd·Refused (refusal r k) ≡ aimOf (pass2 e)
   unfolding aimOf
   aiming-fault {r} {k} h p q b =
       let z : fault2 e (getD a i 0) ≡ r = ap (fault2 e) (sym p) ∙ sym q in
-      let t : first (fault2 e) (drop i (take n a)) ≡ fault (fault2 e (getD a i 0)) (getD a i 0)
+      let t : first (fault2 e) (drop i (take n a)) ≡ fault (refusal (fault2 e (getD a i 0)) (getD a i 0))
       = rw (here h) (first-fault (fault2 e) (getD a i 0) (drop (i + 1) (take n a)) (λ y. b (sym z ∙ y))) in
-      let u : fault r k ≡ pass2 e = cc (s .same) in
+      let u : fault (refusal r k) ≡ pass2 e = rw (← z, p) (sym t ∙ s .same) in
       ap aimOf u
 
   pub aiming-end : n ≤ i → Fine ≡ aimOf (pass2 e)

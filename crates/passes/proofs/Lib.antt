@@ -1,6 +1,6 @@
--- The work behind the contracts of this crate. `Measuring`, what pass 3 knows at a start, and
--- `Answering` serve `acceptor` too.
+-- `Promises` is the page for users of this crate; the others hold the work behind the contracts.
 pub mod Scanning
 pub mod Aiming
 pub mod Measuring
 pub mod Answering
+pub mod Promises

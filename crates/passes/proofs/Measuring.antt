@@ -10,7 +10,8 @@ use lib.ListN.{getD, length, replicate, length-replicate, getD-replicate}
 use lib.Seq.{getD-set-same, getD-set-other}
 use lib.Dec.{leb}
 use borrow.Author.Tests.{eq-eqb, ne-eqb, le-leb, lt-leb, lt-ltb, le-ltb}
-use Rattle.encoding.proofs.Promises.{cases}
+use Rattle.logic.proofs.Promises.{cases}
+use Rattle.refusals.specs.Refusal.{refusal}
 use Rattle.isa.specs.Classes.{kind-goto, kind-if-goto, kind-end}
 use Rattle.isa.specs.Decode.{kindAt, next, operand, needed, heightAfter, jumps, continues}
 use Rattle.isa.specs.Starts.{startsFrom}
@@ -19,12 +20,11 @@ use Rattle.isa.proofs.Promises.{known-low, from-end, from-next, start-in, start
 use Rattle.verdict.specs.Pass1.{Decodes}
 use Rattle.verdict.specs.Pass2.{Aims}
 use Rattle.verdict.specs.Pass3.{unreached, differing, joined, arrive, raise, atTarget, atNext, passOn, runsOff, fault3, stopped, heightsAlong, heights0, distances0, pass3}
-use Rattle.passes.specs.Tables.{measureOf, Unmeasured, Passing, arrived, farther, Incoming, Halting, Effected, Told, Stepped, Turned, Ahead, Measuring}
-use Rattle.passes.specs.declared.Measure.the-variants.{Fine, Fault as Measure·Fault}
-use Rattle.passes.specs.declared.Flow.{Flow}
-use Rattle.passes.specs.declared.Step.{Step}
-use Rattle.verdict.proofs.Decoded.{decodes-fits, decodes-known, aims-target}
-use Rattle.verdict.proofs.Along.{along-nil, along-skip, along-pass, along-stop, fine, continues-true, joined-first, joined-same, joined-differing, longer-end, longer-other, AtCell, arrives, raises, if-length, if-kept, replicate-at, heights0-length, heights0-zero, heights0-other, distances0-length, distances0-at}
+use Rattle.passes.specs.joining.Tables.{measureOf, Unmeasured, Passing, arrived, farther, Incoming, Halting, Effected, Brings, ReachedStep, Turned, AgreeFrom, Measuring}
+use Rattle.passes.specs.declared.pass3.MeasureEnd.the-variants.{Fine, Refused as MeasureEnd·Refused}
+use Rattle.passes.specs.declared.brought.Flow.{Flow}
+use Rattle.passes.specs.declared.pass3.Carry.{Carry}
+use Rattle.verdict.proofs.Deciding.{decodes-fits, decodes-known, aims-target, along-nil, along-skip, along-pass, along-stop, fine, continues-true, joined-first, joined-same, joined-differing, longer-end, longer-other, AtCell, arrives, raises, if-length, if-kept, replicate-at, heights0-length, heights0-zero, heights0-other, distances0-length, distances0-at}
 
 module _ (e : List ℕ) (k : ℕ) where
   -- ---- telling the target, at one table
@@ -73,16 +73,16 @@ farther-low h b d n p q = elim (ℕ-discrete h unreached) [ yes r ↦ rw (eq-eqb
 
 -- ---- one reached start
 -- an instruction that is not refused leaves at most 64 cells
-pub effected-low : {e : List ℕ} {k h d g l : ℕ} {r : Step} → Effected e k h d g l r → r .fault ≡ 0 → r .height ≤ 64
+pub effected-low : {e : List ℕ} {k h d g l : ℕ} {r : Carry} → Effected e k h d g l r → r .fault ≡ 0 → r .height ≤ 64
 effected-low {e} {k} {h} x z = omega (arith, x .onward z .height-is, fine e k h (sym (x .number) ∙ z) .room)
 
 -- an instruction that is no jump tells no target
-pub told-none : (e : List ℕ) (k h d : ℕ) (r : Step) (hs ds : List ℕ) → kindAt e k ≢ kind-goto → kindAt e k ≢ kind-if-goto → Told e k h d r hs ds hs ds
-told-none e k h d r hs ds p q = record { heights-are = λ _. target-none e k (arrive (heightAfter e k h)) hs p q; distances-are = λ _. target-none e k (raise (d + 1)) ds p q }
+pub brings-none : (e : List ℕ) (k h d : ℕ) (r : Carry) (hs ds : List ℕ) → kindAt e k ≢ kind-goto → kindAt e k ≢ kind-if-goto → Brings e k h d r hs ds hs ds
+brings-none e k h d r hs ds p q = record { heights-are = λ _. target-none e k (arrive (heightAfter e k h)) hs p q; distances-are = λ _. target-none e k (raise (d + 1)) ds p q }
 
-module _ (e : List ℕ) (k h d g l : ℕ) {s : Step} {hs ds hs′ ds′ : List ℕ} where
+module _ (e : List ℕ) (k h d g l : ℕ) {s : Carry} {hs ds hs′ ds′ : List ℕ} where
   -- what the next start follows passes its height on
-  pub stepped-on : kindAt e k ≢ kind-goto → kindAt e k ≢ kind-end → Effected e k h d g l s → Told e k h d s hs ds hs′ ds′ → Stepped e k h d g l s hs ds hs′ ds′
+  pub stepped-on : kindAt e k ≢ kind-goto → kindAt e k ≢ kind-end → Effected e k h d g l s → Brings e k h d s hs ds hs′ ds′ → ReachedStep e k h d g l s hs ds hs′ ds′
   stepped-on p q x t = record {
     number = x .number;
     passed = λ z. let o = x .onward z in record {
@@ -91,12 +91,12 @@ module _ (e : List ℕ) (k h d g l : ℕ) {s : Step} {hs ds hs′ ds′ : List �
       greatest-is = o .greatest-is;
       longest-is = o .longest-is ∙ sym (longer-other e k (d + 1) l q);
     };
-    told = t;
+    brings = t;
   }
 
   -- a goto passes nothing on
-  pub stepped-goto : {r : Step} → kindAt e k ≡ kind-goto → Effected e k h d g l s → Told e k h d s hs ds hs′ ds′ → Halting (s .fault) (s .distance) (s .greatest) l r
-      → Stepped e k h d g l r hs ds hs′ ds′
+  pub stepped-goto : {r : Carry} → kindAt e k ≡ kind-goto → Effected e k h d g l s → Brings e k h d s hs ds hs′ ds′ → Halting (s .fault) (s .distance) (s .greatest) l r
+      → ReachedStep e k h d g l r hs ds hs′ ds′
   stepped-goto p x t m = record {
     number = m .fault-is ∙ x .number;
     passed = λ z. let o = x .onward (sym (m .fault-is) ∙ z) in record {
@@ -105,12 +105,12 @@ module _ (e : List ℕ) (k h d g l : ℕ) {s : Step} {hs ds hs′ ds′ : List �
       greatest-is = m .greatest-is ∙ o .greatest-is;
       longest-is = m .longest-is ∙ sym (longer-other e k (d + 1) l (omega arith));
     };
-    told = record { heights-are = λ z. t .heights-are (sym (m .fault-is) ∙ z); distances-are = λ z. t .distances-are (sym (m .fault-is) ∙ z) };
+    brings = record { heights-are = λ z. t .heights-are (sym (m .fault-is) ∙ z); distances-are = λ z. t .distances-are (sym (m .fault-is) ∙ z) };
   }
 
 -- nor does an end, where a walk ends
-pub stepped-end : (e : List ℕ) (k h d g l : ℕ) {s r : Step} (hs ds : List ℕ) (x : ℕ) → kindAt e k ≡ kind-end → Effected e k h d g l s → x ≡ max l (s .distance)
-    → Halting (s .fault) (s .distance) (s .greatest) x r → Stepped e k h d g l r hs ds hs ds
+pub stepped-end : (e : List ℕ) (k h d g l : ℕ) {s r : Carry} (hs ds : List ℕ) (x : ℕ) → kindAt e k ≡ kind-end → Effected e k h d g l s → x ≡ max l (s .distance)
+    → Halting (s .fault) (s .distance) (s .greatest) x r → ReachedStep e k h d g l r hs ds hs ds
 stepped-end e k h d g l hs ds x p f q m = record {
   number = m .fault-is ∙ f .number;
   passed = λ z. let o = f .onward (sym (m .fault-is) ∙ z) in record {
@@ -119,12 +119,12 @@ stepped-end e k h d g l hs ds x p f q m = record {
     greatest-is = m .greatest-is ∙ o .greatest-is;
     longest-is = m .longest-is ∙ q ∙ ap (max l) (o .distance-is) ∙ sym (longer-end e k (d + 1) l p);
   };
-  told = told-none e k h d _ hs ds (omega arith) (omega arith);
+  brings = brings-none e k h d _ hs ds (omega arith) (omega arith);
 }
 
 -- a start that is reached with what comes to it
-pub turned-step : {e : List ℕ} {k : ℕ} {hs ds hs′ ds′ : List ℕ} {h d g l : ℕ} {f : Flow} {r : Step} → Incoming (getD hs k 0) (getD ds k 0) h d f → f .height ≢ unreached
-    → Stepped e k (f .height) (f .distance) g l r hs ds hs′ ds′ → Turned e k hs ds h d g l r hs′ ds′
+pub turned-step : {e : List ℕ} {k : ℕ} {hs ds hs′ ds′ : List ℕ} {h d g l : ℕ} {f : Flow} {r : Carry} → Incoming (getD hs k 0) (getD ds k 0) h d f → f .height ≢ unreached
+    → ReachedStep e k (f .height) (f .distance) g l r hs ds hs′ ds′ → Turned e k hs ds h d g l r hs′ ds′
 turned-step i n s = record { skipped = λ p. absurd (n (i .height-is ∙ p)); stepped = λ _. rw (i .height-is, i .distance-is n) at s }
 
 -- ---- the code's table and the definition's, where the loop stands at i
@@ -148,9 +148,9 @@ module _ {v : ℕ → ℕ} {f : ℕ → List ℕ → List ℕ} (a : AtCell v f) 
   if-other false m j s h = refl
 
   -- the definition's table gets what is passed on to target and next start, the code's what is passed on to the target
-  ahead-pass : {e : List ℕ} {i x y : ℕ} {s t : List ℕ} → Ahead e i x s t
+  ahead-pass : {e : List ℕ} {i x y : ℕ} {s t : List ℕ} → AgreeFrom e i x s t
       → cond (continues e i) (v (getD (atTarget e i f s) (next e i) 0)) (getD (atTarget e i f s) (next e i) 0) ≡ y
-      → Ahead e (next e i) y (atTarget e i f s) (passOn e i f t)
+      → AgreeFrom e (next e i) y (atTarget e i f s) (passOn e i f t)
   unfolding atTarget atNext
   ahead-pass {e} {i} {x} {y} {s} {t} p q =
       let s′ : List ℕ = cond (jumps e i) (f (operand e i) s) s in
@@ -168,7 +168,7 @@ module _ {v : ℕ → ℕ} {f : ℕ → List ℕ → List ℕ} (a : AtCell v f) 
       }
 
 -- nothing is passed on
-ahead-skip : {e : List ℕ} {i x y : ℕ} {s t : List ℕ} → Ahead e i x s t → getD s (next e i) 0 ≡ y → Ahead e (next e i) y s t
+ahead-skip : {e : List ℕ} {i x y : ℕ} {s t : List ℕ} → AgreeFrom e i x s t → getD s (next e i) 0 ≡ y → AgreeFrom e (next e i) y s t
 ahead-skip {e} {i} p q = record {
   long = p .long;
   full = p .full;
@@ -189,7 +189,7 @@ flows-small : (b : Bool) (h : ℕ) → h ≤ 64 → cond b h unreached < 256
 flows-small true h low = omega arith
 flows-small false h low = omega arith
 
--- ---- the code's tables, where a jump has told its target
+-- ---- the code's tables, where a jump has brought something to its target
 pub joined-reached : (c h : ℕ) → h ≤ 64 → joined c h ≢ unreached
 joined-reached c h low z =
     elim (ℕ-discrete c unreached) [
@@ -282,7 +282,7 @@ module _ {e : List ℕ} {i : ℕ} {hs ds : List ℕ} {h d g l : ℕ} (s : Measur
     reached : getD (s .heights) i 0 ≢ unreached
     reached z = p (sym hx ∙ z)
 
-    measuring-pass : {r : Step} {hs′ ds′ : List ℕ} → y ≤ i → Stepped e i x y g l r hs ds hs′ ds′ → r .fault ≡ 0
+    measuring-pass : {r : Carry} {hs′ ds′ : List ℕ} → y ≤ i → ReachedStep e i x y g l r hs ds hs′ ds′ → r .fault ≡ 0
         → Measuring e (next e i) hs′ ds′ (r .height) (r .distance) (r .greatest) (r .longest)
     measuring-pass {r} {hs′} {ds′} low t z =
         let q = s .here n in
@@ -291,7 +291,7 @@ module _ {e : List ℕ} {i : ℕ} {hs ds : List ℕ} {h d g l : ℕ} (s : Measur
         let after : ℕ = heightAfter e i x in
         let room : after ≤ 64 = fine e i x f .room in
         let on = rw (hx, dy) at (along-pass one e i (startsFrom e (next e i)) (s .heights) (s .distances) g l reached (ap (fault3 e i) hx ∙ f)) in
-        rw (t .told .heights-are z, t .told .distances-are z, o .height-is, o .distance-is, o .greatest-is, o .longest-is)
+        rw (t .brings .heights-are z, t .brings .distances-are z, o .height-is, o .distance-is, o .greatest-is, o .longest-is)
         (record {
           within = passing-fits q;
           here = λ m. record { short = q .short; decodes = q .decodes; aims = q .aims; start = start-next e i (q .start) m };
@@ -307,17 +307,17 @@ module _ {e : List ℕ} {i : ℕ} {hs ds : List ℕ} {h d g l : ℕ} (s : Measur
           same = sym on ∙ rw (from-next e i n) at (s .same);
         })
 
-    measuring-stop : {r : Step} {hs′ ds′ : List ℕ} → Stepped e i x y g l r hs ds hs′ ds′ → r .fault ≢ 0 → Measure·Fault (r .fault) i ≡ measureOf (pass3 one e)
+    measuring-stop : {r : Carry} {hs′ ds′ : List ℕ} → ReachedStep e i x y g l r hs ds hs′ ds′ → r .fault ≢ 0 → MeasureEnd·Refused (refusal (r .fault) i) ≡ measureOf (pass3 one e)
     unfolding measureOf
     measuring-stop {r} t z =
         let f : fault3 e i (getD (s .heights) i 0) ≡ r .fault = ap (fault3 e i) hx ∙ sym (t .number) in
-        let q : stopped (r .fault) i ≡ pass3 one e
-        = ap (λ (m : ℕ). stopped m i) (sym f)
+        let q : stopped (refusal (r .fault) i) ≡ pass3 one e
+        = ap (λ (m : ℕ). stopped (refusal m i)) (sym f)
         ∙ sym (along-stop one e i (startsFrom e (next e i)) (s .heights) (s .distances) g l reached (λ m. z (sym f ∙ m)))
         ∙ rw (from-next e i n) at (s .same) in
         ap measureOf q
 
-  module _ {r : Step} {hs′ ds′ : List ℕ} (t : Turned e i hs ds h d g l r hs′ ds′) where
+  module _ {r : Carry} {hs′ ds′ : List ℕ} (t : Turned e i hs ds h d g l r hs′ ds′) where
     pub measuring-turn : r .fault ≡ 0 → Measuring e (next e i) hs′ ds′ (r .height) (r .distance) (r .greatest) (r .longest)
     measuring-turn z =
         elim (ℕ-discrete (arrived (getD hs i 0) h) unreached) [
@@ -325,7 +325,7 @@ module _ {e : List ℕ} {i : ℕ} {hs ds : List ℕ} {h d g l : ℕ} (s : Measur
           | no p ↦ measuring-pass _ _ (s .heights-ahead .here n) (s .distances-ahead .here n) p (farther-low h (getD ds i 0) d i (s .low i) (s .near)) (t .stepped p) z
         ]
 
-    pub measuring-fault : r .fault ≢ 0 → Measure·Fault (r .fault) i ≡ measureOf (pass3 one e)
+    pub measuring-fault : r .fault ≢ 0 → MeasureEnd·Refused (refusal (r .fault) i) ≡ measureOf (pass3 one e)
     measuring-fault z =
         elim (ℕ-discrete (arrived (getD hs i 0) h) unreached) [
           | yes p ↦ absurd (z (t .skipped p .0 .fault-is))

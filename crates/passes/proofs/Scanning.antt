@@ -12,17 +12,18 @@ use lib.ListN.{getD, length, set, take, replicate, length-set, length-replicate}
 use lib.Seq.{take-suc-set, getD-set-same, getD-set-other}
 use lib.Dec.{eqb}
 use borrow.Author.Tests.{eq-eqb, ne-eqb, lt-ltb, le-ltb, le-leb, lt-leb}
-use Rattle.isa.specs.Classes.{member, kind-unknown, kind-unsupported, kind-ext, kind-variable, kind-goto, kind-if-goto}
+use Rattle.logic.specs.Tests.{member}
+use Rattle.refusals.specs.Refusal.{refusal}
+use Rattle.isa.specs.Classes.{kind-unknown, kind-unsupported, kind-ext, kind-variable, kind-goto, kind-if-goto}
 use Rattle.isa.specs.Decode.{kindAt, next, operand, isJump, jumps}
 use Rattle.isa.specs.Starts.{starts, startsFrom, isStart}
-use Rattle.encoding.proofs.Promises.{cases, no-true}
+use Rattle.logic.proofs.Promises.{cases, no-true}
 use Rattle.isa.proofs.Promises.{no-operands, jump-operands, known-low, from-end, from-next}
 use Rattle.verdict.specs.Fault.{fault, first}
 use Rattle.verdict.specs.Pass1.{operandWrong, fault1, pass1}
-use Rattle.passes.specs.Tables.{jumpsAmong, jumpStarts, Notes, Unmarked, Scanned, noted, counted}
-use Rattle.passes.specs.declared.Scan.the-variants.{Count}
-use Rattle.verdict.proofs.Decoded.{first-nil, first-ok, first-fault, clear-holds, clear-fits}
-use Rattle.verdict.proofs.Along.{replicate-at}
+use Rattle.passes.specs.joining.Tables.{jumpsAmong, jumpStarts, Notes, Unmarked, Scanned, noted, counted}
+use Rattle.passes.specs.declared.pass1.ScanEnd.the-variants.{Count}
+use Rattle.verdict.proofs.Deciding.{first-nil, first-ok, first-fault, clear-holds, clear-fits, replicate-at}
 
 -- ---- noting a jump
 module _ (kind : ℕ) {at n : ℕ} {a : List ℕ} where
@@ -143,9 +144,9 @@ module _ {e : List ℕ} {i n j : ℕ} {m : List Bool} {a : List ℕ} (s : Scanni
         jumped = sym (jumped-by e i j a ks some (jumps e i) refl free) ∙ rw (from-next e i h) at (s .jumped);
       }
 
-  pub scanning-fault : (r : ℕ) → i < length e → r ≡ fault1 e i → r ≢ 0 → pass1 e ≡ fault r i
+  pub scanning-fault : (r : ℕ) → i < length e → r ≡ fault1 e i → r ≢ 0 → pass1 e ≡ fault (refusal r i)
   scanning-fault r h q b =
-      sym (s .same) ∙ rw (from-next e i h) (first-fault (fault1 e) i (startsFrom e (next e i)) (λ z. b (q ∙ z)) ∙ ap (λ (x : ℕ). fault x i) (sym q))
+      sym (s .same) ∙ rw (from-next e i h) (first-fault (fault1 e) i (startsFrom e (next e i)) (λ z. b (q ∙ z)) ∙ ap (λ (x : ℕ). fault (refusal x i)) (sym q))
 
   pub scanning-end : length e ≤ 1024 → length e ≤ i → Scanned e (Count n j) m a
   unfolding jumpsAmong

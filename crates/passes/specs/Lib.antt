@@ -1,2 +1,2 @@
--- What the code of `passes` holds, in terms of the definitions of `verdict`.
-pub mod Tables
+-- What the contracts of `passes` cite is the verdict (crate `verdict`); here is only what joins its functions.
+pub mod joining

@@ -5,10 +5,16 @@ ghost use Prim.Native.Nat.{_<_, max};
 ghost use lib.ListN.{length};
 ghost use Rattle.verdict.specs.Pass3.{joined, arrive, raise};
 
-// At a start: nothing comes to it; heights that differ come to it.
-pub const UNREACHED: usize = 255;
+// The marks, as wide as a height is in the code.
+pub const UNREACHED: usize = verdict::UNREACHED as usize;
 
-pub const DIFFERING: usize = 254;
+pub const DIFFERING: usize = verdict::DIFFERING as usize;
+
+// What comes to a start: its height, or a mark, and the most instructions before it.
+pub struct Flow {
+    pub height: usize,
+    pub distance: usize,
+}
 
 pub fn wide(height: u8) -> usize
     ensures { λ r. ⌜ (r ≡ height) × (r < 256) ⌝ }

@@ -2,70 +2,34 @@
 ghost use mathlib.Core.Path.{_≡_};
 ghost use mathlib.Core.List.{List};
 ghost use Prim.Native.Nat.{ℕ, _≤_};
+ghost use Rattle.sizes.specs.Sizes.{«expression-most»};
 ghost use Rattle.isa.specs.Starts.{starts};
 ghost use lib.ListN.{length};
-ghost use Rattle.isa.specs.Rows.{table};
-ghost use Rattle.verdict.specs.Pass3.{Outcome};
+ghost use Rattle.isa.specs.joining.Rows.{table};
+ghost use Rattle.verdict.specs.Pass3.{Pass3End};
 ghost use Rattle.verdict.specs.Verdict.{verdict, verdictOf, after3};
-ghost use Rattle.passes.specs.Tables.{measureOf, Unmarked, Unmeasured};
-use verdict::Answer;
+ghost use Rattle.passes.specs.joining.Tables.{measureOf, Unmarked, Unmeasured};
+use crate::pass1::ScanEnd;
+use crate::pass2::AimEnd;
+use crate::pass3::MeasureEnd;
+use refusals::refusal_at;
+use verdict::Verification;
 
 pub mod brought;
 mod pass1;
 mod pass2;
-mod pass3;
-
-// Pass 1: instruction count and jump count, or number and offset.
-pub enum Scan {
-    Count(usize, usize),
-    Fault(u8, usize),
-}
-
-// One instruction of pass 1: its number, or 0; how many jumps are noted.
-pub struct Look {
-    pub fault: u8,
-    pub noted: usize,
-}
-
-// Pass 2: every jump aims well, or number and offset.
-pub enum Aim {
-    Fine,
-    Fault(u8, usize),
-}
-
-// Pass 3: greatest height and longest walk, or number and offset.
-pub enum Measure {
-    Fine(u8, usize),
-    Fault(u8, usize),
-}
-
-// What comes to a start in pass 3: its height and the most instructions before it. Height 255: nothing, 254: heights
-// that differ.
-pub struct Flow {
-    pub height: usize,
-    pub distance: usize,
-}
-
-// One start of pass 3: its number, or 0; what flows on to the next start; the greatest height and the longest walk so
-// far.
-pub struct Step {
-    pub fault: u8,
-    pub height: usize,
-    pub distance: usize,
-    pub greatest: usize,
-    pub longest: usize,
-}
+pub mod pass3;
 
 // The verdict, for a caller that holds the rows.
-pub fn verify_by(rows: &[[u8; 4]; 53], e: &[u8]) -> Answer
+pub fn verify_by(rows: &[[u8; 4]; 53], e: &[u8]) -> Verification
     requires { ⌜ now rows ≡ table ⌝ }
     ensures { λ r. ⌜ verdictOf r ≡ verdict (now (e .entry)) ⌝ }
 {
     if e.len() == 0 {
-        return Answer::Refused(1, 0);
+        return Verification::Refused(refusal_at(refusals::EXPRESSION_SIZE, 0));
     }
-    if 1024 < e.len() {
-        return Answer::Refused(1, 0);
+    if sizes::EXPRESSION_MOST < e.len() {
+        return Verification::Refused(refusal_at(refusals::EXPRESSION_SIZE, 0));
     }
     if e.len() <= 128 {
         return verify_short(rows, e);
@@ -73,14 +37,14 @@ pub fn verify_by(rows: &[[u8; 4]; 53], e: &[u8]) -> Answer
     verify_long(rows, e)
 }
 
-// Short expressions have short tables, which are soon cleared. A height of 255: nothing comes there.
-fn verify_short(rows: &[[u8; 4]; 53], e: &[u8]) -> Answer
+// Short expressions have short tables, which are soon cleared.
+fn verify_short(rows: &[[u8; 4]; 53], e: &[u8]) -> Verification
     requires { ⌜ (now rows ≡ table) × (1 ≤ length (now e)) × (length (now e) ≤ 128) ⌝ }
     ensures { λ r. ⌜ verdictOf r ≡ verdict (now (e .entry)) ⌝ }
 {
     let mut marks = [false; 128];
     let mut jumps = [0u16; 42];
-    let mut heights = [255u8; 128];
+    let mut heights = [verdict::UNREACHED; 128];
     let mut distances = [0u16; 128];
     pass_all(
         rows,
@@ -93,14 +57,14 @@ fn verify_short(rows: &[[u8; 4]; 53], e: &[u8]) -> Answer
 }
 
 // The others have tables for 1,024 bytes.
-fn verify_long(rows: &[[u8; 4]; 53], e: &[u8]) -> Answer
-    requires { ⌜ (now rows ≡ table) × (1 ≤ length (now e)) × (length (now e) ≤ 1024) ⌝ }
+fn verify_long(rows: &[[u8; 4]; 53], e: &[u8]) -> Verification
+    requires { ⌜ (now rows ≡ table) × (1 ≤ length (now e)) × (length (now e) ≤ expression-most) ⌝ }
     ensures { λ r. ⌜ verdictOf r ≡ verdict (now (e .entry)) ⌝ }
 {
-    let mut marks = [false; 1024];
+    let mut marks = [false; sizes::EXPRESSION_MOST];
     let mut jumps = [0u16; 341];
-    let mut heights = [255u8; 1024];
-    let mut distances = [0u16; 1024];
+    let mut heights = [verdict::UNREACHED; sizes::EXPRESSION_MOST];
+    let mut distances = [0u16; sizes::EXPRESSION_MOST];
     pass_all(
         rows,
         e,
@@ -119,25 +83,25 @@ fn pass_all(
     jumps: &mut [u16],
     heights: &mut [u8],
     distances: &mut [u16],
-) -> Answer
-    requires { ⌜ (now rows ≡ table) × (1 ≤ length (now e)) × (length (now e) ≤ 1024) × Unmarked (now e) (now marks) (now jumps) × Unmeasured (now e) (now heights) (now distances) ⌝ }
+) -> Verification
+    requires { ⌜ (now rows ≡ table) × (1 ≤ length (now e)) × (length (now e) ≤ expression-most) × Unmarked (now e) (now marks) (now jumps) × Unmeasured (now e) (now heights) (now distances) ⌝ }
     ensures { λ r. ⌜ verdictOf r ≡ verdict (now (e .entry)) ⌝ }
 {
     match pass1::scan(rows, e, marks, jumps) {
-        Scan::Fault(number, at) => Answer::Refused(number, at),
-        Scan::Count(count, noted) => match pass2::aim(e, marks, jumps, noted) {
-            Aim::Fault(number, at) => Answer::Refused(number, at),
-            Aim::Fine => conclude(count, pass3::measure(rows, e, heights, distances)),
+        ScanEnd::Refused(refusal) => Verification::Refused(refusal),
+        ScanEnd::Count(count, noted) => match pass2::aim(e, marks, jumps, noted) {
+            AimEnd::Refused(refusal) => Verification::Refused(refusal),
+            AimEnd::Fine => conclude(count, pass3::measure(rows, e, heights, distances)),
         },
     }
 }
 
 // The answer where passes 1 and 2 hold.
-fn conclude(count: usize, measure: Measure) -> Answer
-    ensures { λ r. ⌜ ((e : List ℕ) (o : Outcome) → measure ≡ measureOf o → count ≡ length (starts e) → verdictOf r ≡ after3 e o) ⌝ }
+fn conclude(count: usize, measure: MeasureEnd) -> Verification
+    ensures { λ r. ⌜ ((e : List ℕ) (o : Pass3End) → measure ≡ measureOf o → count ≡ length (starts e) → verdictOf r ≡ after3 e o) ⌝ }
 {
     match measure {
-        Measure::Fine(greatest, longest) => Answer::Accepted(count, greatest, longest),
-        Measure::Fault(number, at) => Answer::Refused(number, at),
+        MeasureEnd::Fine(greatest, longest) => Verification::Accepted(count, greatest, longest),
+        MeasureEnd::Refused(refusal) => Verification::Refused(refusal),
     }
 }

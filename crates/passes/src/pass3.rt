@@ -5,20 +5,36 @@ ghost use mathlib.Core.Logic.{_≢_};
 ghost use mathlib.Core.List.{List};
 ghost use Prim.Native.Nat.{ℕ, _≤_, _<_, max};
 ghost use lib.ListN.{length, getD};
+ghost use Rattle.sizes.specs.Sizes.{«expression-most»};
 ghost use Rattle.isa.specs.Classes.{«kind-pick», «kind-goto», «kind-if-goto»};
 ghost use Rattle.isa.specs.Decode.{kindAt, next as nextStart, needed as neededCells, left as leftCells};
-ghost use Rattle.isa.specs.Rows.{table};
+ghost use Rattle.isa.specs.joining.Rows.{table};
 ghost use Rattle.isa.specs.Walk.{one};
 ghost use Rattle.verdict.specs.Pass1.{Decodes};
 ghost use Rattle.verdict.specs.Pass2.{Aims};
 ghost use Rattle.verdict.specs.Pass3.{unreached, differing, joined, arrive, raise, runsOff, pass3};
-ghost use Rattle.passes.specs.Tables.{measureOf, Unmeasured, Incoming, Standing, Reached, Halting, Effected, Told, Stepped, Turned};
-use crate::Flow;
-use crate::Measure;
-use crate::Step;
+ghost use Rattle.passes.specs.joining.Tables.{measureOf, Unmeasured, Incoming, Standing, Reached, Halting, Effected, Brings, ReachedStep, Turned};
 use crate::brought;
+use crate::brought::Flow;
 use isa::Row;
 use isa::Stack;
+use refusals::Refusal;
+use refusals::refusal_at;
+
+// Greatest height and longest walk, or a refusal.
+pub enum MeasureEnd {
+    Fine(u8, usize),
+    Refused(Refusal),
+}
+
+// One start: its number, or 0; what flows on to the next start; the greatest height and the longest walk so far.
+pub struct Carry {
+    pub fault: u8,
+    pub height: usize,
+    pub distance: usize,
+    pub greatest: usize,
+    pub longest: usize,
+}
 
 // What comes to the start `at`: by jumps, and from the start before it.
 fn incoming(at: usize, height: usize, distance: usize, heights: &[u8], distances: &[u16]) -> Flow
@@ -42,10 +58,10 @@ fn incoming(at: usize, height: usize, distance: usize, heights: &[u8], distances
     }
 }
 
-fn refused(number: u8) -> Step
+fn refused(number: u8) -> Carry
     ensures { λ r. ⌜ r .fault ≡ number ⌝ }
 {
-    Step {
+    Carry {
         fault: number,
         height: brought::UNREACHED,
         distance: 0,
@@ -55,10 +71,10 @@ fn refused(number: u8) -> Step
 }
 
 // The same, but nothing flows on.
-fn halted(s: Step, longest: usize) -> Step
+fn halted(s: Carry, longest: usize) -> Carry
     ensures { λ r. ⌜ Halting (s .fault) (s .distance) (s .greatest) longest r ⌝ }
 {
-    Step {
+    Carry {
         fault: s.fault,
         height: brought::UNREACHED,
         distance: s.distance,
@@ -68,21 +84,21 @@ fn halted(s: Step, longest: usize) -> Step
 }
 
 // What an instruction that needs and leaves so many cells makes of what it is reached with, or its refusal.
-fn effect_by(s: Step, needed: usize, left: usize, is_off: bool) -> Step
+fn effect_by(s: Carry, needed: usize, left: usize, is_off: bool) -> Carry
     requires { ⌜ (s .height < 256) × (s .height ≢ differing) × (s .distance ≤ 1024) × (left < 512) ⌝ }
     ensures { λ r. ⌜ ((e : List ℕ) (k : ℕ) → needed ≡ neededCells e k → left ≡ leftCells e k → «is_off» ≡ runsOff e k → Effected e k (s .height) (s .distance) (s .greatest) (s .longest) r) ⌝ }
 {
     if !Stack::has(s.height, needed) {
-        return refused(9);
+        return refused(refusals::CELLS_TOO_FEW);
     }
     let after = s.height - needed + left;
     if !Stack::fits(after) {
-        return refused(10);
+        return refused(refusals::CELLS_TOO_MANY);
     }
     if is_off {
-        return refused(11);
+        return refused(refusals::RUNS_OFF);
     }
-    Step {
+    Carry {
         fault: 0,
         height: after,
         distance: s.distance + 1,
@@ -97,12 +113,12 @@ fn step_jump(
     is_off: bool,
     e: &[u8],
     at: usize,
-    s: Step,
+    s: Carry,
     heights: &mut [u8],
     distances: &mut [u16],
-) -> Step
+) -> Carry
     requires { ⌜ Reached (now e) at (s .height) (s .distance) (now heights) (now distances) ⌝ ∗ ⌜ (kind-goto ≤ kindAt (now e) at) × (kindAt (now e) at ≤ kind-if-goto) × (row .needed ≡ neededCells (now e) at) × (row .left ≡ leftCells (now e) at) × («is_off» ≡ runsOff (now e) at) ⌝ }
-    ensures { λ r. ⌜ Effected (now (e .entry)) at (s .height) (s .distance) (s .greatest) (s .longest) r × Told (now (e .entry)) at (s .height) (s .distance) r (now (heights .entry)) (now (distances .entry)) (now (heights .exit)) (now (distances .exit)) ⌝ }
+    ensures { λ r. ⌜ Effected (now (e .entry)) at (s .height) (s .distance) (s .greatest) (s .longest) r × Brings (now (e .entry)) at (s .height) (s .distance) r (now (heights .entry)) (now (distances .entry)) (now (heights .exit)) (now (distances .exit)) ⌝ }
 {
     let after = effect_by(
         s,
@@ -125,12 +141,12 @@ fn step_other(
     e: &[u8],
     at: usize,
     next: usize,
-    s: Step,
+    s: Carry,
     heights: &mut [u8],
     distances: &mut [u16],
-) -> Step
+) -> Carry
     requires { ⌜ Reached (now e) at (s .height) (s .distance) (now heights) (now distances) ⌝ ∗ ⌜ (next ≡ nextStart (now e) at) × (kind ≡ kindAt (now e) at) × (kind-pick ≤ kind) ⌝ }
-    ensures { λ r. ⌜ Stepped (now (e .entry)) at (s .height) (s .distance) (s .greatest) (s .longest) r (now (heights .entry)) (now (distances .entry)) (now (heights .exit)) (now (distances .exit)) ⌝ }
+    ensures { λ r. ⌜ ReachedStep (now (e .entry)) at (s .height) (s .distance) (s .greatest) (s .longest) r (now (heights .entry)) (now (distances .entry)) (now (heights .exit)) (now (distances .exit)) ⌝ }
 {
     let is_off = e.len() <= next;
     if kind == isa::PICK {
@@ -162,12 +178,12 @@ fn step_reached(
     e: &[u8],
     at: usize,
     next: usize,
-    s: Step,
+    s: Carry,
     heights: &mut [u8],
     distances: &mut [u16],
-) -> Step
+) -> Carry
     requires { ⌜ now rows ≡ table ⌝ ∗ ⌜ opcode ≡ getD (now e) at 0 ⌝ ∗ ⌜ Reached (now e) at (s .height) (s .distance) (now heights) (now distances) ⌝ ∗ ⌜ next ≡ nextStart (now e) at ⌝ }
-    ensures { λ r. ⌜ Stepped (now (e .entry)) at (s .height) (s .distance) (s .greatest) (s .longest) r (now (heights .entry)) (now (distances .entry)) (now (heights .exit)) (now (distances .exit)) ⌝ }
+    ensures { λ r. ⌜ ReachedStep (now (e .entry)) at (s .height) (s .distance) (s .greatest) (s .longest) r (now (heights .entry)) (now (distances .entry)) (now (heights .exit)) (now (distances .exit)) ⌝ }
 {
     let kind = isa::column(rows, opcode, 3);
     if isa::PICK <= kind {
@@ -185,10 +201,10 @@ fn step(
     e: &[u8],
     at: usize,
     next: usize,
-    s: Step,
+    s: Carry,
     heights: &mut [u8],
     distances: &mut [u16],
-) -> Step
+) -> Carry
     requires { ⌜ now rows ≡ table ⌝ ∗ ⌜ opcode ≡ getD (now e) at 0 ⌝ ∗ ⌜ Standing (now e) at (s .height) (s .distance) (now heights) (now distances) ⌝ ∗ ⌜ (next ≡ nextStart (now e) at) × (s .fault ≡ 0) ⌝ }
     ensures { λ r. ⌜ Turned (now (e .entry)) at (now (heights .entry)) (now (distances .entry)) (s .height) (s .distance) (s .greatest) (s .longest) r (now (heights .exit)) (now (distances .exit)) ⌝ }
 {
@@ -197,9 +213,9 @@ fn step(
         return halted(s, s.longest);
     }
     if flow.height == brought::DIFFERING {
-        return refused(8);
+        return refused(refusals::HEIGHTS_DIFFER);
     }
-    let here = Step {
+    let here = Carry {
         fault: 0,
         height: flow.height,
         distance: flow.distance,
@@ -214,12 +230,12 @@ pub(crate) fn measure(
     e: &[u8],
     heights: &mut [u8],
     distances: &mut [u16],
-) -> Measure
-    requires { ⌜ (now rows ≡ table) × (length (now e) ≤ 1024) × Decodes (now e) × Aims (now e) × Unmeasured (now e) (now heights) (now distances) ⌝ }
+) -> MeasureEnd
+    requires { ⌜ (now rows ≡ table) × (length (now e) ≤ expression-most) × Decodes (now e) × Aims (now e) × Unmeasured (now e) (now heights) (now distances) ⌝ }
     ensures { λ r. ⌜ r ≡ measureOf (pass3 one (now (e .entry))) ⌝ }
 {
     let mut at = 0;
-    let mut s = Step {
+    let mut s = Carry {
         fault: 0,
         height: 0,
         distance: 0,
@@ -231,9 +247,9 @@ pub(crate) fn measure(
         let next = at + 1 + brought::wide(isa::column(rows, opcode, 0));
         s = step(rows, opcode, e, at, next, s, heights, distances);
         if s.fault != 0 {
-            return Measure::Fault(s.fault, at);
+            return MeasureEnd::Refused(refusal_at(s.fault, at));
         }
         at = next;
     }
-    Measure::Fine(s.greatest as u8, s.longest)
+    MeasureEnd::Fine(s.greatest as u8, s.longest)
 }

@@ -10,10 +10,10 @@ use lib.ListN.{length, drop, getD, length-append, length-drop}
 use lib.Seq.{drop-drop, getD-drop}
 use borrow.Author.Tests.{eq-eqb, ne-eqb}
 use Rattle.io.specs.Digits.{digits, glyph, Fewest}
-use Rattle.report.specs.Text.{bytesOf}
-use Rattle.encoding.proofs.Promises.{cases}
-use Rattle.listing.specs.Numbers.{decimal}
-use Rattle.listing.proofs.Promises.{decimal-length}
+use Rattle.text_buffer.specs.Text.{bytesOf}
+use Rattle.logic.proofs.Promises.{cases}
+use Rattle.text_buffer.specs.Decimal.{decimal}
+use Rattle.text_buffer.proofs.Promises.{decimal-length}
 use Rattle.phrases.specs.Numbers.{countText, hexText, significant, valueText}
 
 -- ---- one, or more

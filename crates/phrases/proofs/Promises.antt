@@ -1,4 +1,5 @@
--- What users of `phrases` may cite. The contracts of src/ are the rest: each function appends the text that specs/ defines.
+-- What users of `phrases` may cite. The contracts of src/ are the rest: each function appends the text that specs/
+-- defines.
 use Prim.Native.Nat.{ℕ, _+_, _^_, _≤_, _<_}
 use mathlib.Core.List.{List}
 use mathlib.Core.Path.{_≡_}

@@ -1,9 +1,10 @@
 -- The phrases at small numbers. Assumes nothing.
+use mathlib.Core.List.{[], _∷_, map}
 use mathlib.Core.Path.{_≡_, refl}
-use Rattle.report.specs.Text.{bytesOf}
-use Rattle.listing.specs.Numbers.{decimalBy, decimal}
+use Rattle.text_buffer.specs.Text.{bytesOf}
+use Rattle.text_buffer.specs.Decimal.{decimalBy, decimal}
 use Rattle.phrases.specs.Numbers.{countText, hexText, significant, valueText}
-use Rattle.phrases.specs.Refused.{refusedAt}
+use Rattle.phrases.specs.Refused.{refusedAt, refusalOf}
 
 one : countText 1 (bytesOf "byte") ≡ bytesOf "1 byte"
 unfolding decimalBy decimal countText
@@ -28,3 +29,6 @@ zero-value = refl
 a-refusal : refusedAt 19 12 ≡ bytesOf "refused 19 at offset 12"
 unfolding decimalBy decimal refusedAt
 a-refusal = refl
+
+some-words : map refusalOf (0 ∷ 1 ∷ 25 ∷ 26 ∷ []) ≡ "unknown refusal number" ∷ "the expression has no bytes, or more than 1024" ∷ "there is no such record in the frame" ∷ "unknown refusal number" ∷ []
+some-words = refl

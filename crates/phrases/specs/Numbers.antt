@@ -4,8 +4,8 @@ use mathlib.Core.Bool.{cond}
 use mathlib.Core.List.{List, [], _∷_, _++_}
 use lib.Dec.{eqb}
 use Rattle.io.specs.Digits.{digits}
-use Rattle.report.specs.Text.{bytesOf}
-use Rattle.listing.specs.Numbers.{decimal}
+use Rattle.text_buffer.specs.Text.{bytesOf}
+use Rattle.text_buffer.specs.Decimal.{decimal}
 
 -- `1 byte`, `2 bytes`: the word alone for one, with an s for every other number
 unfoldable pub countText : ℕ → List ℕ → List ℕ

@@ -3,10 +3,10 @@ ghost use mathlib.Core.Path.{_≡_};
 ghost use Prim.Native.Nat.{_≤_};
 ghost use lib.ListN.{length, drop};
 ghost use Rattle.io.specs.Counts.{Counts};
-ghost use Rattle.report.specs.Text.{Appends};
+ghost use Rattle.text_buffer.specs.Text.{Appends};
 ghost use Rattle.phrases.specs.Numbers.{countText, hexText, significant, valueText};
-use report::text::append;
-use report::text::append_number;
+use text_buffer::append;
+use text_buffer::append_number;
 
 // Appends a number of things: `1 byte`, `2 bytes`.
 pub fn append_count(out: &mut [u8], at: usize, number: u64, word: &[u8]) -> usize

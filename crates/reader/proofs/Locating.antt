@@ -1,33 +1,37 @@
 -- Where a frame is: one law for each way out of the code.
-use mathlib.Core.Bool.{Bool, true, false, cond, _||_}
+use mathlib.Core.Bool.{Bool, true, false, cond}
 use mathlib.Core.List.{List}
 use mathlib.Core.Path.{_≡_, refl, ap, sym, _∙_}
 use Prim.Native.Nat.{ℕ, zero, suc, _+_, _-_, _≤_, _<_}
 use native.Mathlib.Omega.{arith}
 use lib.ListN.{length, take, drop}
-use lib.Dec.{T, leb, ltb, eqb}
-use borrow.Author.Tests.{lt-ltb, le-ltb, le-leb, lt-leb, ne-eqb, leb-true, eqb-true, ltb-false}
-use Rattle.encoding.proofs.Promises.{cases, no-true}
+use lib.Dec.{leb, ltb, eqb}
+use borrow.Author.Tests.{lt-ltb, le-ltb, le-leb, lt-leb, ne-eqb, leb-true, ltb-false}
+use Rattle.sizes.specs.Sizes.{buffer-most}
+use Rattle.refusals.specs.Numbers.{buffer-bad, trailer-broken, no-such-frame}
+use Rattle.refusals.specs.Refusal.{refusal}
+use Rattle.refusals.specs.declared.Refusal.{Refusal}
+use Rattle.frames.specs.Buffer.{unfit}
+use Rattle.frames.specs.declared.Tag.{Tag}
 use Rattle.frames.specs.Trailer.{trailerSize, TrailerRead, trailer, brokenTrailer, decodeTrailer}
-use Rattle.frames.specs.Division.{divide}
-use Rattle.frames.specs.Reading.{endingOf}
+use Rattle.frames.specs.joining.Answers.{endingOf}
 use Rattle.frames.specs.declared.Ending.{Ending}
 use Rattle.frames.specs.declared.Ending.the-variants.{Closes, NoTrailer}
-use Rattle.reader.specs.Located.{Located, frame, refused, unfit, closedBy, frameBefore, older, frameBack, located, walked}
-use Rattle.reader.specs.Read.{Read, refusedRead, readDivided, readLocated, reading, refusedCount, countDivided, countLocated, counting}
+use Rattle.frames.proofs.Promises.{is-fit, fit-lengths}
+use Rattle.reader.specs.Located.{Located, frame, refused, closedBy, frameBefore, older, frameBack, located, walked}
 
 -- ---- the frame that ends at an offset
 -- what a trailer says, by the code's answer
 abbrev closedAs : ℕ → Ending → Located
-closedAs end (Closes t n) = cond (leb n (end - trailerSize)) (frame t (end - trailerSize - n) n) (refused 22 end)
-closedAs end NoTrailer = refused 22 end
+closedAs end (Closes t n) = cond (leb n (end - trailerSize)) (frame t (end - trailerSize - n) n) (refused (refusal trailer-broken end))
+closedAs end NoTrailer = refused (refusal trailer-broken end)
 
 closed-same : (end : ℕ) (d : TrailerRead) → closedBy end d ≡ closedAs end (endingOf d)
 closed-same end (trailer t n) = refl
 closed-same end brokenTrailer = refl
 
 module _ (l : List ℕ) (end : ℕ) where
-  pub nothing-left : end ≡ 0 → refused 24 0 ≡ frameBefore l end
+  pub nothing-left : end ≡ 0 → refused (refusal no-such-frame 0) ≡ frameBefore l end
   unfolding frameBefore
   nothing-left e = rw e
 
@@ -35,7 +39,7 @@ module _ (l : List ℕ) (end : ℕ) where
     not-nothing : eqb end 0 ≡ false
     not-nothing = ne-eqb end 0 (λ e. omega arith)
 
-    pub too-short : end < trailerSize → refused 22 end ≡ frameBefore l end
+    pub too-short : end < trailerSize → refused (refusal trailer-broken end) ≡ frameBefore l end
     unfolding frameBefore
     too-short h = rw (not-nothing, lt-ltb end trailerSize h)
 
@@ -47,21 +51,21 @@ module _ (l : List ℕ) (end : ℕ) where
           rw (not-nothing, le-ltb end trailerSize h, e, n)
           (sym (closed-same end (decodeTrailer (take trailerSize (drop (end - trailerSize) l)))))
 
-      pub no-trailer : x ≡ NoTrailer → refused 22 end ≡ frameBefore l end
+      pub no-trailer : x ≡ NoTrailer → refused (refusal trailer-broken end) ≡ frameBefore l end
       no-trailer g = rw g at by-trailer
 
-      pub too-long : {t n : ℕ} → x ≡ Closes t n → end - trailerSize < n → refused 22 end ≡ frameBefore l end
+      pub too-long : {t : Tag} {n : ℕ} → x ≡ Closes t n → end - trailerSize < n → refused (refusal trailer-broken end) ≡ frameBefore l end
       too-long {t} {n} g b = rw (g, lt-leb n (end - trailerSize) b) at by-trailer
 
-      pub frame-there : {t n : ℕ} → x ≡ Closes t n → n ≤ end - trailerSize → frame t (end - trailerSize - n) n ≡ frameBefore l end
+      pub frame-there : {t : Tag} {n : ℕ} → x ≡ Closes t n → n ≤ end - trailerSize → frame t (end - trailerSize - n) n ≡ frameBefore l end
       frame-there {t} {n} g b = rw (g, le-leb n (end - trailerSize) b) at by-trailer
 
 -- ---- what is known of a frame that was found: its records, then its trailer, end there
 abbrev pub Ends : ℕ → Located → Type 0
 Ends end (frame t s n) = s + n + trailerSize ≡ end
-Ends end (refused r k) = Unit {0}
+Ends end (refused r) = Unit {0}
 
-ends-by : (end : ℕ) (b : Bool) (t n : ℕ) → leb n (end - trailerSize) ≡ b → trailerSize ≤ end → Ends end (cond b (frame t (end - trailerSize - n) n) (refused 22 end))
+ends-by : (end : ℕ) (b : Bool) (t : Tag) (n : ℕ) → leb n (end - trailerSize) ≡ b → trailerSize ≤ end → Ends end (cond b (frame t (end - trailerSize - n) n) (refused (refusal trailer-broken end)))
 ends-by end true t n e h = let k = leb-true n (end - trailerSize) e in omega arith
 ends-by end false t n e h = tt
 
@@ -69,11 +73,11 @@ closed-ends : (end : ℕ) (d : TrailerRead) → trailerSize ≤ end → Ends end
 closed-ends end (trailer t n) h = ends-by end (leb n (end - trailerSize)) t n refl h
 closed-ends end brokenTrailer h = tt
 
-short-by : (end : ℕ) (b : Bool) (x : Located) → ltb end trailerSize ≡ b → (trailerSize ≤ end → Ends end x) → Ends end (cond b (refused 22 end) x)
+short-by : (end : ℕ) (b : Bool) (x : Located) → ltb end trailerSize ≡ b → (trailerSize ≤ end → Ends end x) → Ends end (cond b (refused (refusal trailer-broken end)) x)
 short-by end true x e f = tt
 short-by end false x e f = f (ltb-false end trailerSize e)
 
-none-by : (end : ℕ) (b : Bool) (x : Located) → Ends end x → Ends end (cond b (refused 24 0) x)
+none-by : (end : ℕ) (b : Bool) (x : Located) → Ends end x → Ends end (cond b (refused (refusal no-such-frame 0)) x)
 none-by end true x h = tt
 none-by end false x h = h
 
@@ -82,36 +86,12 @@ unfolding frameBefore
 frame-ends l end =
     none-by end (eqb end 0) _ (short-by end (ltb end trailerSize) _ refl (closed-ends end (decodeTrailer (take trailerSize (drop (end - trailerSize) l)))))
 
-pub frame-end : (l : List ℕ) (end : ℕ) {t s n : ℕ} → frame t s n ≡ frameBefore l end → s + n + trailerSize ≡ end
+pub frame-end : (l : List ℕ) (end : ℕ) {t : Tag} {s n : ℕ} → frame t s n ≡ frameBefore l end → s + n + trailerSize ≡ end
 frame-end l end e = rw (← e) at (frame-ends l end)
-
--- ---- 15
-module _ (l : List ℕ) (u : ℕ) where
-  unfit-by : (65536 < length l → ⊥) → (length l < u → ⊥) → unfit l u ≡ false
-  unfit-by f g = rw (le-ltb 65536 (length l) (omega arith), le-ltb (length l) u (omega arith))
-
-  pub too-large : 65536 < length l → unfit l u ≡ true
-  too-large h = rw (lt-ltb 65536 (length l) h)
-
-  too-far-by : (b : Bool) → length l < u → b || ltb (length l) u ≡ true
-  too-far-by true h = refl
-  too-far-by false h = lt-ltb (length l) u h
-
-  too-far : length l < u → unfit l u ≡ true
-  too-far h = too-far-by (ltb 65536 (length l)) h
-
-  -- the code's second test decides where the first does not hold
-  pub second-test : length l ≤ 65536 → ltb (length l) u ≡ unfit l u
-  second-test h = rw (le-ltb 65536 (length l) h)
-
-  pub fit-lengths : unfit l u ≡ false → (length l ≤ 65536) × (u ≤ length l)
-  fit-lengths e =
-      cases 65536 (length l) (λ h. no-true (sym e ∙ too-large h)) λ h.
-      cases (length l) u (λ k. no-true (sym e ∙ too-far k)) (λ k. (h, k))
 
 -- ---- the walker's step
 module _ (l : List ℕ) (place : ℕ) where
-  pub walked-unfit : unfit l place ≡ true → refused 15 0 ≡ walked l place
+  pub walked-unfit : unfit l place ≡ true → refused (refusal buffer-bad 0) ≡ walked l place
   unfolding walked
   walked-unfit e = rw e
 
@@ -123,24 +103,24 @@ module _ (l : List ℕ) (place : ℕ) where
 pub record Back (l : List ℕ) (used number end left : ℕ) : Type 0 where
   pub same : located l used number ≡ frameBack l left end
   pub within : end ≤ length l
-  pub small : length l ≤ 65536
+  pub small : length l ≤ buffer-most
 
 module _ (l : List ℕ) (used number : ℕ) where
-  pub located-unfit : unfit l used ≡ true → refused 15 0 ≡ located l used number
+  pub located-unfit : unfit l used ≡ true → refused (refusal buffer-bad 0) ≡ located l used number
   unfolding located
   located-unfit e = rw e
 
-  pub back-begins : length l ≤ 65536 → used ≤ length l → Back l used number used number
+  pub back-begins : length l ≤ buffer-most → used ≤ length l → Back l used number used number
   unfolding located
-  back-begins h k = record { same = rw (unfit-by l used (λ x. omega arith) (λ x. omega arith)); within = k; small = h }
+  back-begins h k = record { same = rw (is-fit l used h k); within = k; small = h }
 
-refused-back : (l : List ℕ) (n end : ℕ) {r k : ℕ} → refused r k ≡ frameBefore l end → refused r k ≡ frameBack l n end
+refused-back : (l : List ℕ) (n end : ℕ) {r : Refusal} → refused r ≡ frameBefore l end → refused r ≡ frameBack l n end
 unfolding frameBack
 refused-back l zero end e = e
 refused-back l (suc n) end e = ap (older (λ s. frameBack l n s)) e
 
 module _ {l : List ℕ} {used number end left : ℕ} (b : Back l used number end left) where
-  pub back-refused : {r k : ℕ} → refused r k ≡ frameBefore l end → refused r k ≡ located l used number
+  pub back-refused : {r : Refusal} → refused r ≡ frameBefore l end → refused r ≡ located l used number
   back-refused e = refused-back l left end e ∙ sym (b .same)
 
   pub back-last : left ≡ 0 → frameBefore l end ≡ located l used number
@@ -151,7 +131,7 @@ module _ {l : List ℕ} {used number end left : ℕ} (b : Back l used number end
   unfolding frameBack
   one-back h = let q : left ≡ suc (left - 1) = omega arith in b .same ∙ ap (λ n. frameBack l n end) q
 
-  pub back-again : 0 < left → {t s n : ℕ} → frame t s n ≡ frameBefore l end → Back l used number s (left - 1)
+  pub back-again : 0 < left → {t : Tag} {s n : ℕ} → frame t s n ≡ frameBefore l end → Back l used number s (left - 1)
   back-again h e = record {
     same = one-back h ∙ ap (older (λ s. frameBack l (left - 1) s)) (sym e);
     within = omega (arith, frame-end l end e, b .within);
@@ -161,22 +141,22 @@ module _ {l : List ℕ} {used number end left : ℕ} (b : Back l used number end
 -- ---- what is known of a frame that was located: it ends where the walk began, or before
 unfoldable pub Upto : ℕ → Located → Type 0
 Upto end (frame t s n) = s + n + trailerSize ≤ end
-Upto end (refused r k) = Unit {0}
+Upto end (refused r) = Unit {0}
 
 upto-from : (end : ℕ) (x : Located) → Ends end x → Upto end x
 unfolding Upto
 upto-from end (frame t s n) e = omega arith
-upto-from end (refused r k) e = tt
+upto-from end (refused r) e = tt
 
 upto-more : (m n : ℕ) (x : Located) → m ≤ n → Upto m x → Upto n x
 unfolding Upto
 upto-more m n (frame t s k) h w = omega (arith, w)
-upto-more m n (refused r k) h w = tt
+upto-more m n (refused r) h w = tt
 
 older-upto : (go : ℕ → Located) (end : ℕ) → ((s : ℕ) → Upto s (go s)) → (x : Located) → Ends end x → Upto end (older go x)
 unfolding Upto
 older-upto go end f (frame t s n) e = upto-more s end (go s) (omega arith) (f s)
-older-upto go end f (refused r k) e = tt
+older-upto go end f (refused r) e = tt
 
 pub back-upto : (l : List ℕ) (number end : ℕ) → Upto end (frameBack l number end)
 unfolding frameBack
@@ -184,15 +164,15 @@ back-upto l zero end = upto-from end (frameBefore l end) (frame-ends l end)
 back-upto l (suc number) end = older-upto (λ s. frameBack l number s) end (λ s. back-upto l number s) (frameBefore l end) (frame-ends l end)
 
 abbrev Inside : List ℕ → Located → Type 0
-Inside l (frame t s n) = (s + n + trailerSize ≤ length l) × (length l ≤ 65536)
-Inside l (refused r k) = Unit {0}
+Inside l (frame t s n) = (s + n + trailerSize ≤ length l) × (length l ≤ buffer-most)
+Inside l (refused r) = Unit {0}
 
-inside-by : (l : List ℕ) (end : ℕ) (x : Located) → length l ≤ 65536 → end ≤ length l → Upto end x → Inside l x
+inside-by : (l : List ℕ) (end : ℕ) (x : Located) → length l ≤ buffer-most → end ≤ length l → Upto end x → Inside l x
 unfolding Upto
 inside-by l end (frame t s n) h k w = (omega (arith, w), h)
-inside-by l end (refused r c) h k w = tt
+inside-by l end (refused r) h k w = tt
 
-fit-by : (l : List ℕ) (used : ℕ) (b : Bool) (x : Located) → unfit l used ≡ b → Upto used x → Inside l (cond b (refused 15 0) x)
+fit-by : (l : List ℕ) (used : ℕ) (b : Bool) (x : Located) → unfit l used ≡ b → Upto used x → Inside l (cond b (refused (refusal buffer-bad 0)) x)
 fit-by l used true x e w = tt
 fit-by l used false x e w = inside-by l used x (fit-lengths l used e .0) (fit-lengths l used e .1) w
 
@@ -200,28 +180,59 @@ located-in : (l : List ℕ) (used number : ℕ) → Inside l (located l used num
 unfolding located
 located-in l used number = fit-by l used (unfit l used) _ refl (back-upto l number used)
 
-pub located-inside : (l : List ℕ) (used number : ℕ) {t s n : ℕ} → frame t s n ≡ located l used number → (s + n + trailerSize ≤ length l) × (length l ≤ 65536)
+pub located-inside : (l : List ℕ) (used number : ℕ) {t : Tag} {s n : ℕ} → frame t s n ≡ located l used number → (s + n + trailerSize ≤ length l) × (length l ≤ buffer-most)
 located-inside l used number e = rw (← e) at (located-in l used number)
 
--- ---- reading and counting go on from there
-module _ (l : List ℕ) (used number : ℕ) where
-  pub read-refused : (i : ℕ) {r k : ℕ} → refused r k ≡ located l used number → refusedRead r k ≡ reading l used number i
-  unfolding reading
-  read-refused i e = ap (readLocated l i) e
+-- ---- the trailer at an offset
+abbrev pub trailerAt : List ℕ → ℕ → TrailerRead
+trailerAt l k = decodeTrailer (take trailerSize (drop k l))
 
-  pub count-refused : {r k : ℕ} → refused r k ≡ located l used number → refusedCount r k ≡ counting l used number
-  unfolding counting
-  count-refused e = ap (countLocated l) e
+-- ---- what holds of 15, 22 and 24 and of each frame that a trailer closes holds of all that a search and a walk give
+module _ (P : Located → Type 0) (l : List ℕ) (h15 : P (refused (refusal buffer-bad 0))) (h22 : (end : ℕ) → P (refused (refusal trailer-broken end)))
+    (h24 : P (refused (refusal no-such-frame 0)))
+    (closes : (end : ℕ) (t : Tag) (n : ℕ) → trailerAt l (end - trailerSize) ≡ trailer t n → n ≤ end - trailerSize → P (frame t (end - trailerSize - n) n)) where
+  either : (b : Bool) (x y : Located) → P x → P y → P (cond b x y)
+  either true x y h k = h
+  either false x y h k = k
 
-  module _ {t s n : ℕ} (e : frame t s n ≡ located l used number) where
-    -- the part of the buffer that is lent is the frame's records
-    pub records-lent : take (s + n - s) (drop s l) ≡ take n (drop s l)
-    records-lent = let q : s + n - s ≡ n = omega arith in rw q
+  closed-if : (end : ℕ) (t : Tag) (n : ℕ) → trailerAt l (end - trailerSize) ≡ trailer t n
+      → (b : Bool) → leb n (end - trailerSize) ≡ b → P (cond b (frame t (end - trailerSize - n) n) (refused (refusal trailer-broken end)))
+  closed-if end t n e true h = closes end t n e (leb-true n (end - trailerSize) h)
+  closed-if end t n e false h = h22 end
 
-    pub read-frame : (i : ℕ) → readDivided t s i (divide (take (s + n - s) (drop s l))) ≡ reading l used number i
-    unfolding reading
-    read-frame i = ap (λ p. readDivided t s i (divide p)) records-lent ∙ ap (readLocated l i) e
+  closed-in : (end : ℕ) (d : TrailerRead) → trailerAt l (end - trailerSize) ≡ d → P (closedBy end d)
+  closed-in end (trailer t n) e = closed-if end t n e (leb n (end - trailerSize)) refl
+  closed-in end brokenTrailer e = h22 end
 
-    pub count-frame : countDivided t s n (divide (take (s + n - s) (drop s l))) ≡ counting l used number
-    unfolding counting
-    count-frame = ap (λ p. countDivided t s n (divide p)) records-lent ∙ ap (countLocated l) e
+  before-in : (end : ℕ) → P (frameBefore l end)
+  unfolding frameBefore
+  before-in end = either (eqb end 0) _ _ h24 (either (ltb end trailerSize) _ _ (h22 end) (closed-in end _ refl))
+
+  older-in : (go : ℕ → Located) (x : Located) → ((s : ℕ) → P (go s)) → P x → P (older go x)
+  older-in go (frame t s n) f h = f s
+  older-in go (refused r) f h = h
+
+  back-in : (number end : ℕ) → P (frameBack l number end)
+  unfolding frameBack
+  back-in zero end = before-in end
+  back-in (suc number) end = older-in (λ s. frameBack l number s) (frameBefore l end) (back-in number) (before-in end)
+
+  pub located-all : (used number : ℕ) → P (located l used number)
+  unfolding located
+  located-all used number = either (unfit l used) _ _ h15 (back-in number used)
+
+  pub walked-all : (place : ℕ) → P (walked l place)
+  unfolding walked
+  walked-all place = either (unfit l place) _ _ h15 (before-in place)
+
+-- a frame that was located is closed by its trailer
+abbrev Closed : List ℕ → Located → Type 0
+Closed l (frame t s n) = trailerAt l (s + n) ≡ trailer t n
+Closed l (refused r) = Unit {0}
+
+pub located-closed : (l : List ℕ) (used number : ℕ) {t : Tag} {s n : ℕ} → frame t s n ≡ located l used number
+    → trailerAt l (s + n) ≡ trailer t n
+located-closed l used number e =
+    let all = located-all (Closed l) l tt (λ end. tt) tt
+    (λ end t n d h. let q : end - trailerSize - n + n ≡ end - trailerSize = omega arith in rw q d) used number in
+    rw (← e) at all

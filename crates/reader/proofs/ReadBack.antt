@@ -1,23 +1,30 @@
--- A frame that was written behind the used bytes is the newest, and the older ones are read as before, one number higher.
+-- A frame that was written behind the used bytes is the newest, and the older ones are read as before, one number
+-- higher.
 use mathlib.Core.List.{List, [], _∷_, _++_, append-assoc}
 use mathlib.Core.Path.{_≡_, refl, ap, sym, _∙_}
-use Prim.Native.Nat.{ℕ, zero, suc, _+_, _-_, _^_, _≤_, _<_}
+use Prim.Native.Nat.{ℕ, zero, suc, _+_, _-_, _≤_}
 use native.Mathlib.Nat.{add-zero, add-assoc}
 use native.Mathlib.Omega.{arith}
 use lib.ListN.{length, take, drop, length-append, length-drop, take-append-drop}
 use lib.Seq.{length-take-le, take-append-seam, drop-append-seam, take-append-le, drop-append-le, drop-drop, take-at, drop-at}
 use Rattle.encoding.specs.Written.{writtenAt}
-use Rattle.encoding.proofs.Promises.{cases, written-length, written-form}
+use Rattle.logic.proofs.Promises.{cases}
+use Rattle.encoding.proofs.Promises.{written-length, written-form}
 use Rattle.encoding.specs.LittleEndian.{littleBytes}
 use Rattle.frames.specs.Record.{Record, memory, encode, size, encodeAll, AllWellFormed}
 use Rattle.frames.specs.Division.{divide, records}
-use Rattle.frames.specs.Trailer.{trailerSize, encodeTrailer, trailer, decodeTrailer}
+use Rattle.frames.specs.declared.Tag.{Tag}
+use Rattle.frames.specs.Trailer.{trailerSize, TagFits, encodeTrailer, decodeTrailer}
 use Rattle.frames.specs.Frame.{encodeFrame}
-use Rattle.frames.specs.Reading.{endingOf}
+use Rattle.frames.specs.joining.Answers.{endingOf}
 use Rattle.frames.specs.declared.Ending.the-variants.{Closes}
 use Rattle.frames.proofs.Promises.{length-encode, encode-all-append, frame-length, trailer-length, decode-trailer, divide-all}
 use Rattle.reader.specs.Located.{Located, frame, refused, frameBefore, older, frameBack, located}
-use Rattle.reader.specs.Read.{refusedRead, told, recordRead, readLocated, reading, counted, countLocated, counting}
+use Rattle.refusals.specs.Numbers.{no-such-record}
+use Rattle.refusals.specs.Refusal.{refusal}
+use Rattle.sizes.specs.Sizes.{buffer-most}
+use Rattle.reader.specs.Framed.{frameRead, framedAt, framed}
+use Rattle.reader.specs.Read.{refusedRead, told, recordRead, recordIn, reading, counted, countIn, counting}
 use Rattle.reader.proofs.Splitting.{unnumbered}
 use Rattle.reader.proofs.Locating.{nothing-left, too-short, frame-there, Ends, frame-ends, Upto, back-upto, back-begins}
 
@@ -43,7 +50,7 @@ module _ (l m : List ℕ) (u : ℕ) (same : take u l ≡ take u m) (hl : u ≤ l
 
   older-same : (f g : ℕ → Located) (end : ℕ) → ((s : ℕ) → s ≤ end → f s ≡ g s) → (x : Located) → Ends end x → older f x ≡ older g x
   older-same f g end e (frame t s n) w = e s (omega arith)
-  older-same f g end e (refused r k) w = refl
+  older-same f g end e (refused r) w = refl
 
   back-same : (number end : ℕ) → end ≤ u → frameBack l number end ≡ frameBack m number end
   unfolding frameBack
@@ -52,18 +59,13 @@ module _ (l m : List ℕ) (u : ℕ) (same : take u l ≡ take u m) (hl : u ≤ l
       older-same (λ s. frameBack l number s) (λ s. frameBack m number s) end (λ s k. back-same number s (omega arith)) (frameBefore l end) (frame-ends l end)
       ∙ ap (older (λ s. frameBack m number s)) (before-same end h)
 
-  read-same : (i : ℕ) (x : Located) → Upto u x → readLocated l i x ≡ readLocated m i x
+  framed-same : (x : Located) → Upto u x → framedAt l x ≡ framedAt m x
   unfolding Upto
-  read-same i (frame t s n) w = rw (part-same s n (omega (arith, w)))
-  read-same i (refused r k) w = refl
-
-  count-same : (x : Located) → Upto u x → countLocated l x ≡ countLocated m x
-  unfolding Upto
-  count-same (frame t s n) w = rw (part-same s n (omega (arith, w)))
-  count-same (refused r k) w = refl
+  framed-same (frame t s n) w = rw (part-same s n (omega (arith, w)))
+  framed-same (refused r) w = refl
 
 -- ---- a record among others
-told-at : (t s o : ℕ) (before : List Record) (r : Record) (behind : List Record)
+told-at : (t : Tag) (s o : ℕ) (before : List Record) (r : Record) (behind : List Record)
     → recordRead t s o (length before) (before ++ (r ∷ behind)) ≡ told t (o + length (encodeAll before)) r
 unfolding encodeAll
 told-at t s o [] r behind = ap (λ k. told t k r) (sym (add-zero o))
@@ -77,7 +79,7 @@ unfolding encode littleBytes
 header-skipped a bytes rest = take-append-seam bytes rest
 
 -- ---- a frame of these records, written at u
-module _ (l : List ℕ) (u t : ℕ) (rs : List Record) (small : length l ≤ 65536) (fits : u + length (encodeFrame t rs) ≤ length l) (low : t < 2 ^ 16) where
+module _ (l : List ℕ) (u : ℕ) (t : Tag) (rs : List Record) (small : length l ≤ buffer-most) (fits : u + length (encodeFrame t rs) ≤ length l) (low : TagFits t) where
   abbrev after : List ℕ
   after = writtenAt l u (encodeFrame t rs)
 
@@ -142,26 +144,32 @@ module _ (l : List ℕ) (u t : ℕ) (rs : List Record) (small : length l ≤ 655
   located-upto number = rw (back-begins l u number small (omega arith) .same) (back-upto l number u)
 
   -- the frames that were there before
+  pub older-framed : (number : ℕ) → framed after end (suc number) ≡ framed l u number
+  unfolding framed
+  older-framed number =
+      ap (framedAt after) (older-located number)
+      ∙ sym (framed-same l after u front-same (omega arith) (omega (arith, after-long)) (located l u number) (located-upto number))
+
   pub older-reading : (number i : ℕ) → reading after end (suc number) i ≡ reading l u number i
   unfolding reading
-  older-reading number i =
-      ap (readLocated after i) (older-located number)
-      ∙ sym (read-same l after u front-same (omega arith) (omega (arith, after-long)) i (located l u number) (located-upto number))
+  older-reading number i = ap (recordIn i) (older-framed number)
 
   pub older-counting : (number : ℕ) → counting after end (suc number) ≡ counting l u number
   unfolding counting
-  older-counting number =
-      ap (countLocated after) (older-located number)
-      ∙ sym (count-same l after u front-same (omega arith) (omega (arith, after-long)) (located l u number) (located-upto number))
+  older-counting number = ap countIn (older-framed number)
 
   -- the newest
   module _ (well : AllWellFormed rs) where
     divided : divide (take long (drop u after)) ≡ records rs
     divided = ap divide records-there ∙ divide-all rs well
 
-    pub newest-reading : (i : ℕ) → reading after end 0 i ≡ recordRead t u u i rs
+    pub newest-framed : framed after end 0 ≡ frameRead t u rs
+    unfolding framed
+    newest-framed = rw (newest-located, divided)
+
+    newest-reading : (i : ℕ) → reading after end 0 i ≡ recordRead t u u i rs
     unfolding reading
-    newest-reading i = rw (newest-located, divided)
+    newest-reading i = ap (recordIn i) newest-framed
 
     -- each record, by its number
     pub newest-record : (before : List Record) (r : Record) (behind : List Record) → rs ≡ before ++ (r ∷ behind)
@@ -169,12 +177,12 @@ module _ (l : List ℕ) (u t : ℕ) (rs : List Record) (small : length l ≤ 655
     newest-record before r behind e =
         newest-reading (length before) ∙ ap (recordRead t u u (length before)) e ∙ told-at t u u before r behind
 
-    pub newest-past : (i : ℕ) → length rs ≤ i → reading after end 0 i ≡ refusedRead 25 u
+    pub newest-past : (i : ℕ) → length rs ≤ i → reading after end 0 i ≡ refusedRead (refusal no-such-record u)
     newest-past i h = newest-reading i ∙ sym (unnumbered t u u i rs h)
 
     pub newest-counting : counting after end 0 ≡ counted t u long (length rs)
     unfolding counting
-    newest-counting = rw (newest-located, divided)
+    newest-counting = ap countIn newest-framed
 
   -- the bytes at the place that is told are those recorded
   pub newest-bytes : (before : List Record) (a : ℕ) (bytes : List ℕ) (behind : List Record) → rs ≡ before ++ (memory a bytes ∷ behind)

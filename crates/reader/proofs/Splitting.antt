@@ -6,15 +6,20 @@ use native.Mathlib.Nat.{zero-add, add-zero, add-assoc, not-suc-le-zero}
 use native.Mathlib.Omega.{arith}
 use lib.ListN.{length, drop, length-append, length-drop, drop-of-length-le}
 use lib.Seq.{drop-drop}
-use Rattle.encoding.proofs.Promises.{cases}
+use Rattle.logic.proofs.Promises.{cases}
 use Rattle.frames.specs.Record.{Record, memory, variable, size, encode, encodeAll, found, decode}
 use Rattle.frames.specs.Division.{Division, records, brokenAt, after, afterAll, divide}
-use Rattle.frames.specs.Reading.{sizeOf, itemOf, Tells}
-use Rattle.frames.proofs.Promises.{length-encode, found-fits, encode-all-more, divide-nothing, divide-found, divide-broken, after-all-nothing, after-all-more, after-all-broken, divided-first, by-size}
-use Rattle.frames.specs.declared.Item.{Item}
-use Rattle.frames.specs.declared.Item.the-variants.{Memory, Variable}
-use Rattle.reader.specs.Read.{memoryRead, variableRead, refusedRead, told, recordRead, readDivided, counted, countDivided}
-use Rattle.reader.specs.Answers.{offsetIn, splitOf}
+use Rattle.frames.specs.joining.Answers.{sizeOf, fieldsOf, Tells}
+use Rattle.frames.proofs.Promises.{length-encode, found-fits, encode-all-more, divide-nothing, divide-found, divide-broken}
+use Rattle.frames.proofs.Promises.{after-all-nothing, after-all-more, after-all-broken, divided-first, divided-length, by-size}
+use Rattle.frames.specs.declared.RecordFields.{RecordFields}
+use Rattle.frames.specs.declared.RecordFields.the-variants.{Memory, Variable}
+use Rattle.refusals.specs.Numbers.{no-such-record}
+use Rattle.refusals.specs.Refusal.{refusal}
+use Rattle.frames.specs.declared.Tag.{Tag}
+use Rattle.reader.specs.Framed.{framedBy}
+use Rattle.reader.specs.Read.{memoryRead, variableRead, refusedRead, told, recordRead, recordIn, counted, countIn}
+use Rattle.reader.specs.joining.Splitting.{offsetIn, splitOf}
 use Rattle.reader.specs.declared.Split.the-variants.{Whole, BrokenAt}
 
 -- ---- the offset of a record, with one more record behind
@@ -103,7 +108,7 @@ module _ {l : List ℕ} {wanted at count seen : ℕ} (w : Through l wanted at co
 pub record Numbered (l : List ℕ) (i : ℕ) (rs : List Record) (o : ℕ) : Type 0 where
   pub which : Record
   pub there : decode (drop (offsetIn (length l) o i rs) l) ≡ found which
-  pub tells : (t s : ℕ) → recordRead t s (s + o) i rs ≡ told t (s + offsetIn (length l) o i rs) which
+  pub tells : (t : Tag) (s : ℕ) → recordRead t s (s + o) i rs ≡ told t (s + offsetIn (length l) o i rs) which
 
 pub numbered : (l : List ℕ) (o i : ℕ) (rs : List Record) → divide (drop o l) ≡ records rs → i < length rs → Numbered l i rs o
 numbered l o i [] e h = absurd (not-suc-le-zero h)
@@ -113,7 +118,7 @@ numbered l o (suc i) (r ∷ rs) e h =
     record { which = rest .which; there = rest .there; tells = λ t s. ap (λ k. recordRead t s k i rs) (add-assoc s o (size r)) ∙ rest .tells t s }
 
 -- past the last one there is none
-pub unnumbered : (t s o i : ℕ) (rs : List Record) → length rs ≤ i → refusedRead 25 s ≡ recordRead t s o i rs
+pub unnumbered : (t : Tag) (s o i : ℕ) (rs : List Record) → length rs ≤ i → refusedRead (refusal no-such-record s) ≡ recordRead t s o i rs
 unnumbered t s o i [] h = refl
 unnumbered t s o zero (r ∷ rs) h = absurd (not-suc-le-zero h)
 unnumbered t s o (suc i) (r ∷ rs) h = unnumbered t s (o + size r) i rs (omega arith)
@@ -134,8 +139,11 @@ module _ (l : List ℕ) (i : ℕ) {n o : ℕ} (e : Whole n o ≡ splitOf (length
       let w = split-whole (length l) i (divide l) e in
       cases i n (λ t. t) (λ t. absurd (h (w .3 ∙ offset-none (length l) 0 i (w .0) (omega (arith, w .2)))))
 
-  pub counts-records : (t s k : ℕ) → counted t s k n ≡ countDivided t s k (divide l)
-  counts-records t s k = let w = split-whole (length l) i (divide l) e in ap (counted t s k) (w .2) ∙ ap (countDivided t s k) (sym (w .1))
+  pub counts-records : (t : Tag) (s k : ℕ) → length l ≡ k → counted t s k n ≡ countIn (framedBy t s (divide l))
+  counts-records t s k h =
+      let w = split-whole (length l) i (divide l) e in
+      let long : k ≡ length (encodeAll (w .0)) = sym h ∙ divided-length l (w .1) in
+      ap (λ m. counted t s m n) long ∙ ap (counted t s (length (encodeAll (w .0)))) (w .2) ∙ ap (λ d. countIn (framedBy t s d)) (sym (w .1))
 
   -- the record of number i stands at o
   pub record Chosen : Type 0 where
@@ -143,7 +151,7 @@ module _ (l : List ℕ) (i : ℕ) {n o : ℕ} (e : Whole n o ≡ splitOf (length
     pub there : decode (drop o l) ≡ found which
     pub inside : o + size which ≤ length l
     pub some : 0 < sizeOf (decode (drop o l))
-    pub tells : (t s : ℕ) → told t (s + o) which ≡ readDivided t s i (divide l)
+    pub tells : (t : Tag) (s : ℕ) → told t (s + o) which ≡ recordIn i (framedBy t s (divide l))
 
   pub one-read : i < n → Chosen
   one-read h =
@@ -155,35 +163,35 @@ module _ (l : List ℕ) (i : ℕ) {n o : ℕ} (e : Whole n o ≡ splitOf (length
         there = there;
         inside = omega (arith, found-fits (drop o l) there, length-drop o l);
         some = rw there (found-fits (drop o l) there .0);
-        tells = λ t s. ap (λ k. told t (s + k) (c .which)) (w .3) ∙ sym (c .tells t s) ∙ ap (λ k. recordRead t s k i (w .0)) (add-zero s) ∙ ap (readDivided t s i) (sym (w .1));
+        tells = λ t s. ap (λ k. told t (s + k) (c .which)) (w .3) ∙ sym (c .tells t s) ∙ ap (λ k. recordRead t s k i (w .0)) (add-zero s) ∙ ap (λ d. recordIn i (framedBy t s d)) (sym (w .1));
       }
 
-  pub none-read : o ≡ length l → (t s : ℕ) → refusedRead 25 s ≡ readDivided t s i (divide l)
+  pub none-read : o ≡ length l → (t : Tag) (s : ℕ) → refusedRead (refusal no-such-record s) ≡ recordIn i (framedBy t s (divide l))
   none-read h t s =
       let w = split-whole (length l) i (divide l) e in
       cases i n (λ k. let c = one-read k in absurd (omega (arith, c .inside, found-fits (drop o l) (c .there))))
-      (λ k. unnumbered t s s i (w .0) (omega (arith, w .2)) ∙ ap (readDivided t s i) (sym (w .1)))
+      (λ k. unnumbered t s s i (w .0) (omega (arith, w .2)) ∙ ap (λ d. recordIn i (framedBy t s d)) (sym (w .1)))
 
 -- ---- what the item says of the record
-told-memory : (t o : ℕ) (r : Record) {a n : ℕ} → Memory a n ≡ itemOf r → memoryRead t a n (o + 11) ≡ told t o r
+told-memory : (t : Tag) (o : ℕ) (r : Record) {a n : ℕ} → Memory a n ≡ fieldsOf r → memoryRead t a n (o + 11) ≡ told t o r
 told-memory t o (memory a bytes) e = let p : _ ≡ _ = e in cc
 told-memory t o (variable k x) e = absurd (let z : _≡_ {A = ℕ} 0 1 = cc in omega arith)
 
-told-variable : (t o : ℕ) (r : Record) {k x : ℕ} → Variable k x ≡ itemOf r → variableRead t k x ≡ told t o r
+told-variable : (t : Tag) (o : ℕ) (r : Record) {k x : ℕ} → Variable k x ≡ fieldsOf r → variableRead t k x ≡ told t o r
 told-variable t o (memory a bytes) e = absurd (let z : _≡_ {A = ℕ} 0 1 = cc in omega arith)
 told-variable t o (variable k x) e = cc
 
-memory-long : (r : Record) {a n : ℕ} → Memory a n ≡ itemOf r → 11 ≤ size r
+memory-long : (r : Record) {a n : ℕ} → Memory a n ≡ fieldsOf r → 11 ≤ size r
 memory-long (memory a bytes) e = omega arith
 memory-long (variable k x) e = omega arith
 
-module _ (l : List ℕ) (i : ℕ) {n o : ℕ} (e : Whole n o ≡ splitOf (length l) i (divide l)) (h : i < n) {x : Item} (y : Tells x (decode (drop o l))) where
-  pub memory-read : {a k : ℕ} → x ≡ Memory a k → (t s : ℕ) → memoryRead t a k (s + o + 11) ≡ readDivided t s i (divide l)
+module _ (l : List ℕ) (i : ℕ) {n o : ℕ} (e : Whole n o ≡ splitOf (length l) i (divide l)) (h : i < n) {x : RecordFields} (y : Tells x (decode (drop o l))) where
+  pub memory-read : {a k : ℕ} → x ≡ Memory a k → (t : Tag) (s : ℕ) → memoryRead t a k (s + o + 11) ≡ recordIn i (framedBy t s (divide l))
   memory-read q t s =
       let c = one-read l i e h in
       told-memory t (s + o) (c .which) (sym q ∙ rw (c .there) at y) ∙ c .tells t s
 
-  pub variable-read : {k v : ℕ} → x ≡ Variable k v → (t s : ℕ) → variableRead t k v ≡ readDivided t s i (divide l)
+  pub variable-read : {k v : ℕ} → x ≡ Variable k v → (t : Tag) (s : ℕ) → variableRead t k v ≡ recordIn i (framedBy t s (divide l))
   variable-read q t s =
       let c = one-read l i e h in
       told-variable t (s + o) (c .which) (sym q ∙ rw (c .there) at y) ∙ c .tells t s

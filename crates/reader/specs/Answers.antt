@@ -1,39 +1,22 @@
--- Document 01's number and values for each case of the code's answers.
-use mathlib.Core.List.{List, [], _∷_}
-use Prim.Native.Nat.{ℕ, zero, suc, _+_}
-use lib.ListN.{length}
-use Rattle.frames.specs.Record.{Record, size}
-use Rattle.frames.specs.Division.{Division, records, brokenAt}
+-- Document 01's values for each case of the code's answers.
 use Rattle.reader.specs.Located.{Located, frame, refused}
 use Rattle.reader.specs.Read.{Read, memoryRead, variableRead, refusedRead, Counted, counted, refusedCount}
-use Rattle.reader.specs.declared.Place.{Place}
-use Rattle.reader.specs.declared.Place.the-variants.{Frame, NoFrame}
-use Rattle.reader.specs.declared.Reading.{Reading}
-use Rattle.reader.specs.declared.Reading.the-variants.{Memory, Variable, NoReading}
-use Rattle.reader.specs.declared.Count.{Count}
-use Rattle.reader.specs.declared.Count.the-variants.{Records, NoCount}
-use Rattle.reader.specs.declared.Split.{Split}
-use Rattle.reader.specs.declared.Split.the-variants.{Whole, BrokenAt}
+use Rattle.reader.specs.declared.FrameAnswer.{FrameAnswer}
+use Rattle.reader.specs.declared.FrameAnswer.the-variants.{Frame, Refused}
+use Rattle.reader.specs.declared.RecordAnswer.{RecordAnswer}
+use Rattle.reader.specs.declared.RecordAnswer.the-variants.{Memory, Variable, Refused as RecordRefused}
+use Rattle.reader.specs.declared.CountAnswer.{CountAnswer}
+use Rattle.reader.specs.declared.CountAnswer.the-variants.{Records, Refused as CountRefused}
 
-abbrev pub locatedOf : Place → Located
-locatedOf (Frame tracepoint start long) = frame tracepoint start long
-locatedOf (NoFrame r k) = refused r k
+abbrev pub locatedOf : FrameAnswer → Located
+locatedOf (Frame tag start long) = frame tag start long
+locatedOf (Refused r) = refused r
 
-abbrev pub readOf : Reading → Read
-readOf (Memory tracepoint address long place) = memoryRead tracepoint address long place
-readOf (Variable tracepoint number value) = variableRead tracepoint number value
-readOf (NoReading r k) = refusedRead r k
+abbrev pub readOf : RecordAnswer → Read
+readOf (Memory tag address long place) = memoryRead tag address long place
+readOf (Variable tag number value) = variableRead tag number value
+readOf (RecordRefused r) = refusedRead r
 
-abbrev pub countedOf : Count → Counted
-countedOf (Records tracepoint start long n) = counted tracepoint start long n
-countedOf (NoCount r k) = refusedCount r k
-
--- ---- between `divide` and its callers: the number of records, and the offset of record number i (n where there is none)
-abbrev pub offsetIn : ℕ → ℕ → ℕ → List Record → ℕ
-offsetIn n o i [] = n
-offsetIn n o zero (r ∷ rs) = o
-offsetIn n o (suc i) (r ∷ rs) = offsetIn n (o + size r) i rs
-
-abbrev pub splitOf : ℕ → ℕ → Division → Split
-splitOf n i (records rs) = Whole (length rs) (offsetIn n 0 i rs)
-splitOf n i (brokenAt k) = BrokenAt k
+abbrev pub countedOf : CountAnswer → Counted
+countedOf (Records tag start long n) = counted tag start long n
+countedOf (CountRefused r) = refusedCount r

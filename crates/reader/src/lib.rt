@@ -2,30 +2,36 @@
 ghost use mathlib.Core.Path.{_≡_};
 ghost use Prim.Native.Nat.{_+_, _≤_};
 ghost use lib.ListN.{length};
+ghost use Rattle.sizes.specs.Sizes.{buffer-most};
 ghost use Rattle.frames.specs.Division.{divide as division};
-ghost use Rattle.reader.specs.Located.{unfit, frameBefore, located, walked};
-ghost use Rattle.reader.specs.Read.{reading, counting, readDivided};
-ghost use Rattle.reader.specs.Answers.{locatedOf, readOf, countedOf, splitOf};
+ghost use Rattle.reader.specs.Located.{frameBefore, located, walked};
+ghost use Rattle.reader.specs.Framed.{framedBy};
+ghost use Rattle.reader.specs.Read.{reading, counting, recordIn};
+ghost use Rattle.reader.specs.Answers.{locatedOf, readOf, countedOf};
+ghost use Rattle.reader.specs.joining.Splitting.{splitOf};
 use frames::Ending;
-use frames::Item;
+use frames::RecordFields;
+use frames::Tag;
+use refusals::Refusal;
+use refusals::refusal_at;
 
-// A frame: tracepoint number, start, length of the records. Or a refusal: number and offset.
-pub enum Place {
-    Frame(u16, usize, usize),
-    NoFrame(u8, usize),
+// A frame: tag, start, length of the records.
+pub enum FrameAnswer {
+    Frame(Tag, usize, usize),
+    Refused(Refusal),
 }
 
-// Memory: tracepoint number, address, length, place of the bytes in the buffer. Variable: tracepoint number, number, value. Or a refusal.
-pub enum Reading {
-    Memory(u16, u64, usize, usize),
-    Variable(u16, u64, u64),
-    NoReading(u8, usize),
+// Memory: tag, address, length, place of the bytes in the buffer. Variable: tag, number, value.
+pub enum RecordAnswer {
+    Memory(Tag, u64, usize, usize),
+    Variable(Tag, u64, u64),
+    Refused(Refusal),
 }
 
-// Tracepoint number, start, length of the records, their number. Or a refusal.
-pub enum Count {
-    Records(u16, usize, usize, usize),
-    NoCount(u8, usize),
+// Tag, start, length of the records, their number.
+pub enum CountAnswer {
+    Records(Tag, usize, usize, usize),
+    Refused(Refusal),
 }
 
 // The number of records, and the offset of the one asked for or the length of the bytes; or the offset of the first
@@ -36,67 +42,57 @@ pub enum Split {
 }
 
 // ---- where a frame is
-// 15: the buffer is too large, or more is used than it has.
-fn is_unfit(buffer: &[u8], used: usize) -> bool
-    ensures { λ r. ⌜ r ≡ unfit (now (buffer .entry)) used ⌝ }
-{
-    if 65536 < buffer.len() {
-        return true;
-    }
-    buffer.len() < used
-}
-
 // The frame that ends at `end`.
-fn frame_before(buffer: &[u8], end: usize) -> Place
+fn frame_before(buffer: &[u8], end: usize) -> FrameAnswer
     requires { ⌜ end ≤ length (now buffer) ⌝ }
     ensures { λ r. ⌜ locatedOf r ≡ frameBefore (now (buffer .entry)) end ⌝ }
 {
     // One test for a frame that is long enough, and two refusals behind it.
     if end < frames::trailer::TRAILER_SIZE {
         if end == 0 {
-            return Place::NoFrame(24, 0);
+            return FrameAnswer::Refused(refusal_at(refusals::NO_SUCH_FRAME, 0));
         }
-        return Place::NoFrame(22, end);
+        return FrameAnswer::Refused(refusal_at(refusals::TRAILER_BROKEN, end));
     }
     let closed = end - frames::trailer::TRAILER_SIZE;
     match frames::trailer::read_trailer(&buffer[closed..end]) {
-        Ending::NoTrailer => Place::NoFrame(22, end),
-        Ending::Closes(tracepoint, length) => {
+        Ending::NoTrailer => FrameAnswer::Refused(refusal_at(refusals::TRAILER_BROKEN, end)),
+        Ending::Closes(tag, length) => {
             if closed < length {
-                return Place::NoFrame(22, end);
+                return FrameAnswer::Refused(refusal_at(refusals::TRAILER_BROKEN, end));
             }
-            Place::Frame(tracepoint, closed - length, length)
+            FrameAnswer::Frame(tag, closed - length, length)
         }
     }
 }
 
 // The next older frame from a place on: the work of the walker.
-pub fn walk(buffer: &[u8], place: usize) -> Place
+pub fn walk(buffer: &[u8], place: usize) -> FrameAnswer
     ensures { λ r. ⌜ locatedOf r ≡ walked (now (buffer .entry)) place ⌝ }
 {
-    if is_unfit(buffer, place) {
-        return Place::NoFrame(15, 0);
+    if frames::is_unfit(buffer, place) {
+        return FrameAnswer::Refused(refusal_at(refusals::BUFFER_BAD, 0));
     }
     frame_before(buffer, place)
 }
 
 // Frame number `number`, counted from the newest, 0.
-pub fn locate(buffer: &[u8], used: usize, number: u64) -> Place
+pub fn locate(buffer: &[u8], used: usize, number: u64) -> FrameAnswer
     ensures { λ r. ⌜ locatedOf r ≡ located (now (buffer .entry)) used number ⌝ }
 {
-    if is_unfit(buffer, used) {
-        return Place::NoFrame(15, 0);
+    if frames::is_unfit(buffer, used) {
+        return FrameAnswer::Refused(refusal_at(refusals::BUFFER_BAD, 0));
     }
     let mut end = used;
     let mut left = number;
     loop {
         match frame_before(buffer, end) {
-            Place::NoFrame(refusal, offset) => {
-                return Place::NoFrame(refusal, offset);
+            FrameAnswer::Refused(refusal) => {
+                return FrameAnswer::Refused(refusal);
             }
-            Place::Frame(tracepoint, start, length) => {
+            FrameAnswer::Frame(tag, start, length) => {
                 if left == 0 {
-                    return Place::Frame(tracepoint, start, length);
+                    return FrameAnswer::Frame(tag, start, length);
                 }
                 end = start;
                 left -= 1;
@@ -132,53 +128,58 @@ fn divide(bytes: &[u8], wanted: u64) -> Split
 }
 
 // Record number `index` of the frame whose records these bytes are, from `start` on.
-fn read_in(bytes: &[u8], tracepoint: u16, start: usize, index: u64) -> Reading
-    requires { ⌜ start + length (now bytes) ≤ 65536 ⌝ }
-    ensures { λ r. ⌜ readOf r ≡ readDivided tracepoint start index (division (now (bytes .entry))) ⌝ }
+fn read_in(bytes: &[u8], tag: Tag, start: usize, index: u64) -> RecordAnswer
+    requires { ⌜ start + length (now bytes) ≤ buffer-most ⌝ }
+    ensures { λ r. ⌜ readOf r ≡ recordIn index (framedBy tag start (division (now (bytes .entry)))) ⌝ }
 {
     match divide(bytes, index) {
-        Split::BrokenAt(offset) => Reading::NoReading(23, start + offset),
+        Split::BrokenAt(offset) => {
+            let broken = start + offset;
+            RecordAnswer::Refused(refusal_at(refusals::RECORD_BROKEN, broken))
+        }
         Split::Whole(count, found) => {
             if found == bytes.len() {
-                return Reading::NoReading(25, start);
+                return RecordAnswer::Refused(refusal_at(refusals::NO_SUCH_RECORD, start));
             }
             match frames::read_record(&bytes[found..]) {
-                Item::Memory(address, length) => Reading::Memory(
-                    tracepoint,
-                    address,
-                    length,
-                    start + found + frames::MEMORY_HEADER,
-                ),
-                Item::Variable(number, value) => Reading::Variable(tracepoint, number, value),
+                RecordFields::Memory(address, length) => {
+                    let header = start + found;
+                    let place = header + frames::MEMORY_HEADER;
+                    RecordAnswer::Memory(tag, address, length, place)
+                }
+                RecordFields::Variable(number, value) => RecordAnswer::Variable(tag, number, value),
             }
         }
     }
 }
 
 // Reads record number `index` of frame number `number`.
-pub fn read(buffer: &[u8], used: usize, number: u64, index: u64) -> Reading
+pub fn read(buffer: &[u8], used: usize, number: u64, index: u64) -> RecordAnswer
     ensures { λ r. ⌜ readOf r ≡ reading (now (buffer .entry)) used number index ⌝ }
 {
     match locate(buffer, used, number) {
-        Place::NoFrame(refusal, offset) => Reading::NoReading(refusal, offset),
-        Place::Frame(tracepoint, start, length) => {
+        FrameAnswer::Refused(refusal) => RecordAnswer::Refused(refusal),
+        FrameAnswer::Frame(tag, start, length) => {
             let end = start + length;
-            read_in(&buffer[start..end], tracepoint, start, index)
+            read_in(&buffer[start..end], tag, start, index)
         }
     }
 }
 
 // How many records frame number `number` has.
-pub fn count_records(buffer: &[u8], used: usize, number: u64) -> Count
+pub fn count_records(buffer: &[u8], used: usize, number: u64) -> CountAnswer
     ensures { λ r. ⌜ countedOf r ≡ counting (now (buffer .entry)) used number ⌝ }
 {
     match locate(buffer, used, number) {
-        Place::NoFrame(refusal, offset) => Count::NoCount(refusal, offset),
-        Place::Frame(tracepoint, start, length) => {
+        FrameAnswer::Refused(refusal) => CountAnswer::Refused(refusal),
+        FrameAnswer::Frame(tag, start, length) => {
             let end = start + length;
             match divide(&buffer[start..end], 0) {
-                Split::BrokenAt(offset) => Count::NoCount(23, start + offset),
-                Split::Whole(records, found) => Count::Records(tracepoint, start, length, records),
+                Split::BrokenAt(offset) => {
+                    let broken = start + offset;
+                    CountAnswer::Refused(refusal_at(refusals::RECORD_BROKEN, broken))
+                }
+                Split::Whole(records, found) => CountAnswer::Records(tag, start, length, records),
             }
         }
     }

@@ -1,4 +1,3 @@
--- `Promises` is the page for users of this crate; the others hold the work behind it.
-pub mod Promises
+-- The work behind the contracts of src/lib.rt, which are all that users of this crate cite.
 pub mod Making
-pub mod Logging
+pub mod Appending

@@ -1,56 +1,66 @@
 // The instructions that record: trace, tracenz, trace_quick, trace16 and tracev. `put` is the end of what is written in
 // the whole buffer.
-ghost use mathlib.Core.List.{_∷_, []};
 ghost use mathlib.Core.Path.{_≡_};
 ghost use Prim.Native.Nat.{_-_, _≤_, min};
-ghost use lib.ListN.{length, getD};
+ghost use lib.ListN.{length};
+ghost use Rattle.sizes.specs.Sizes.{«record-most»};
 ghost use Rattle.isa.specs.Classes.{trace, tracenz, «trace-quick», tracev};
-ghost use Rattle.isa.specs.Decode.{next, operand};
-ghost use Rattle.isa.specs.Held.{held};
-ghost use Rattle.memory.specs.Spans.{spansRefusal};
+ghost use Rattle.isa.specs.Decode.{operand};
+ghost use Rattle.isa.specs.joining.Held.{held};
+ghost use Rattle.memory.specs.Spans.{target, spansRefusal};
 ghost use Rattle.frames.specs.Record.{memory, variable};
-ghost use Rattle.machine.specs.Fed.{fed};
 ghost use Rattle.machine.specs.Recording.{fitting, rangeMade, toZeroMade};
-ghost use Rattle.machine.specs.Meaning.{recording};
-ghost use Rattle.operations.specs.Here.{Here};
-ghost use Rattle.recording.specs.Logged.{Kept, Onward, Logged};
-use frames::Written;
+ghost use Rattle.machine.specs.Meaning.{traceDone, tracenzDone, traceQuickDone, tracevDone};
+ghost use Rattle.operations.specs.joining.Here.{Here};
+ghost use Rattle.operations.specs.joining.Did.{Did};
+ghost use Rattle.recording.specs.joining.DidMake.{DidMake, NextAfter};
+use frames::Put;
 use isa::Stack;
+use isa::opcode;
 use memory::Search;
 use operations::Next;
 
+// The most bytes that a record holds, as a size is told.
+const RECORD_MOST: u64 = sizes::RECORD_MOST as u64;
+
 // 0 or a refusal's number, and the end of what is written.
-struct Recorded {
+struct Appended {
     stop: u8,
     put: usize,
 }
 
 // ---- records, or 21
-fn record_bytes(buffer: &mut [u8], put: usize, address: u64, bytes: &[u8]) -> Recorded
-    requires { ⌜ put ≤ length (now buffer) ⌝ ∗ ⌜ length (now bytes) ≤ 65535 ⌝ }
-    ensures { λ r. ⌜ Kept (now (buffer .entry)) put (fitting (length (now (buffer .entry)) - put) (memory address (now (bytes .entry)))) r (now (buffer .exit)) ⌝ }
+fn record_bytes(buffer: &mut [u8], put: usize, address: u64, bytes: &[u8]) -> Appended
+    requires { ⌜ put ≤ length (now buffer) ⌝ ∗ ⌜ length (now bytes) ≤ record-most ⌝ }
+    ensures { λ r. ⌜ DidMake (now (buffer .entry)) put (fitting (length (now (buffer .entry)) - put) (memory address (now (bytes .entry)))) r (now (buffer .exit)) ⌝ }
 {
     let written = frames::append_memory(buffer, put, address, bytes);
     match written {
-        Written::Bytes(count) => {
+        Put::Bytes(count) => {
             let end = put + count;
-            Recorded { stop: 0, put: end }
+            Appended { stop: 0, put: end }
         }
-        Written::Full => Recorded { stop: 21, put },
+        Put::Full => Appended {
+            stop: refusals::BUFFER_FULL,
+            put,
+        },
     }
 }
 
-fn record_variable(buffer: &mut [u8], put: usize, number: u32, value: u64) -> Recorded
+fn record_variable(buffer: &mut [u8], put: usize, number: u32, value: u64) -> Appended
     requires { ⌜ put ≤ length (now buffer) ⌝ }
-    ensures { λ r. ⌜ Kept (now (buffer .entry)) put (fitting (length (now (buffer .entry)) - put) (variable number value)) r (now (buffer .exit)) ⌝ }
+    ensures { λ r. ⌜ DidMake (now (buffer .entry)) put (fitting (length (now (buffer .entry)) - put) (variable number value)) r (now (buffer .exit)) ⌝ }
 {
     let written = frames::append_variable(buffer, put, number, value);
     match written {
-        Written::Bytes(size) => {
+        Put::Bytes(size) => {
             let end = put + size;
-            Recorded { stop: 0, put: end }
+            Appended { stop: 0, put: end }
         }
-        Written::Full => Recorded { stop: 21, put },
+        Put::Full => Appended {
+            stop: refusals::BUFFER_FULL,
+            put,
+        },
     }
 }
 
@@ -65,19 +75,21 @@ fn record_range<'a>(
     put: usize,
     address: u64,
     size: u64,
-) -> Recorded
-    requires { ⌜ put ≤ length (now buffer) ⌝ ∗ ⌜ spansRefusal «image_first» (now image) «work_first» (now work) ≡ 0 ⌝ }
-    ensures { λ r. ⌜ Kept (now (buffer .entry)) put (rangeMade (fed [] [] «image_first» (now (image .entry)) «work_first» (now (work .entry))) (length (now (buffer .entry)) - put) address size) r (now (buffer .exit)) ⌝ }
+) -> Appended
+    requires { ⌜ put ≤ length (now buffer) ⌝ ∗ ⌜ spansRefusal (target «image_first» (now image) «work_first» (now work)) ≡ 0 ⌝ }
+    ensures { λ r. ⌜ DidMake (now (buffer .entry)) put (rangeMade (target «image_first» (now (image .entry)) «work_first» (now (work .entry))) (length (now (buffer .entry)) - put) address size) r (now (buffer .exit)) ⌝ }
 {
     if size == 0 {
-        return Recorded { stop: 0, put };
+        return Appended { stop: 0, put };
     }
     let rest = memory::rest(image_first, image, work_first, work, address);
-    if 65535 < size {
-        return Recorded { stop: 20, put };
+    if RECORD_MOST < size {
+        let stop = refusals::RECORD_SIZE;
+        return Appended { stop, put };
     }
     if (rest.len() as u64) < size {
-        return Recorded { stop: 19, put };
+        let stop = refusals::RANGE_NOT_READABLE;
+        return Appended { stop, put };
     }
     let count = size as usize;
     record_bytes(buffer, put, address, &rest[..count])
@@ -85,12 +97,12 @@ fn record_range<'a>(
 
 // The most bytes that are searched.
 fn search_limit(size: u64) -> usize
-    ensures { λ r. ⌜ r ≡ min size 65535 ⌝ }
+    ensures { λ r. ⌜ r ≡ min size record-most ⌝ }
 {
-    if size < 65535 {
+    if size < RECORD_MOST {
         return size as usize;
     }
-    65535
+    sizes::RECORD_MOST
 }
 
 // The bytes at `address` up to and with the first zero, `size` at most.
@@ -103,12 +115,12 @@ fn record_to_zero<'a>(
     put: usize,
     address: u64,
     size: u64,
-) -> Recorded
-    requires { ⌜ put ≤ length (now buffer) ⌝ ∗ ⌜ spansRefusal «image_first» (now image) «work_first» (now work) ≡ 0 ⌝ }
-    ensures { λ r. ⌜ Kept (now (buffer .entry)) put (toZeroMade (fed [] [] «image_first» (now (image .entry)) «work_first» (now (work .entry))) (length (now (buffer .entry)) - put) address size) r (now (buffer .exit)) ⌝ }
+) -> Appended
+    requires { ⌜ put ≤ length (now buffer) ⌝ ∗ ⌜ spansRefusal (target «image_first» (now image) «work_first» (now work)) ≡ 0 ⌝ }
+    ensures { λ r. ⌜ DidMake (now (buffer .entry)) put (toZeroMade (target «image_first» (now (image .entry)) «work_first» (now (work .entry))) (length (now (buffer .entry)) - put) address size) r (now (buffer .exit)) ⌝ }
 {
     if size == 0 {
-        return Recorded { stop: 0, put };
+        return Appended { stop: 0, put };
     }
     let rest = memory::rest(image_first, image, work_first, work, address);
     let limit = search_limit(size);
@@ -116,33 +128,39 @@ fn record_to_zero<'a>(
     match search {
         Search::Found(count) => record_bytes(buffer, put, address, &rest[..count]),
         Search::Reached(count) => {
-            if size <= 65535 {
+            if size <= RECORD_MOST {
                 return record_bytes(buffer, put, address, &rest[..count]);
             }
-            Recorded { stop: 20, put }
+            Appended {
+                stop: refusals::RECORD_SIZE,
+                put,
+            }
         }
-        Search::Ended(_) => Recorded { stop: 19, put },
+        Search::Ended(_) => Appended {
+            stop: refusals::RANGE_NOT_READABLE,
+            put,
+        },
     }
 }
 
 // ---- instructions
 // The instruction's answer: on to `next` with the height `after`; where it is refused, the offset and the height stay.
-fn onward(recorded: Recorded, at: usize, height: usize, next: usize, after: usize) -> Next
-    ensures { λ r. ⌜ Onward recorded at height next after r ⌝ }
+fn next_after(appended: Appended, at: usize, height: usize, next: usize, after: usize) -> Next
+    ensures { λ r. ⌜ NextAfter appended at height next after r ⌝ }
 {
-    if recorded.stop == 0 {
+    if appended.stop == 0 {
         return Next {
             at: next,
             height: after,
-            put: recorded.put,
+            put: appended.put,
             stop: 0,
         };
     }
     Next {
         at,
         height,
-        put: recorded.put,
-        stop: recorded.stop,
+        put: appended.put,
+        stop: appended.stop,
     }
 }
 
@@ -160,13 +178,13 @@ pub fn do_trace<'a>(
     height: usize,
     put: usize,
 ) -> Next
-    requires { ⌜ Here (now rows) (now code) (now cells) trace 12 at height ⌝ ∗ ⌜ put ≤ length (now buffer) ⌝ ∗ ⌜ spansRefusal «image_first» (now image) «work_first» (now work) ≡ 0 ⌝ }
-    ensures { λ r. ⌜ Logged at put (held (now (cells .entry)) height) (now (buffer .entry)) (recording [] (rangeMade (fed (now (code .entry)) [] «image_first» (now (image .entry)) «work_first» (now (work .entry))) (length (now (buffer .entry)) - put) (getD (held (now (cells .entry)) height) 1 0) (getD (held (now (cells .entry)) height) 0 0))) (next (now (code .entry)) at) 2 r (now (cells .entry)) (now (buffer .exit)) ⌝ }
+    requires { ⌜ Here (now rows) (now code) (now cells) trace 0x0c at height ⌝ ∗ ⌜ put ≤ length (now buffer) ⌝ ∗ ⌜ spansRefusal (target «image_first» (now image) «work_first» (now work)) ≡ 0 ⌝ }
+    ensures { λ r. ⌜ Did (now (code .entry)) at put (held (now (cells .entry)) height) (now (buffer .entry)) (traceDone (target «image_first» (now (image .entry)) «work_first» (now (work .entry))) (length (now (buffer .entry)) - put) (held (now (cells .entry)) height)) r (now (cells .entry)) (now (buffer .exit)) ⌝ }
 {
-    let next = operations::next_of(rows, 0x0c, at);
+    let next = operations::next_of(rows, opcode::TRACE, at);
     let size = Stack::below(cells, height, 0);
     let address = Stack::below(cells, height, 1);
-    let recorded = record_range(
+    let appended = record_range(
         image_first,
         image,
         work_first,
@@ -176,8 +194,8 @@ pub fn do_trace<'a>(
         address,
         size,
     );
-    let after = operations::height_of(rows, 0x0c, height);
-    onward(recorded, at, height, next, after)
+    let after = operations::height_of(rows, opcode::TRACE, height);
+    next_after(appended, at, height, next, after)
 }
 
 // tracenz: as trace, up to a zero byte.
@@ -194,13 +212,13 @@ pub fn do_tracenz<'a>(
     height: usize,
     put: usize,
 ) -> Next
-    requires { ⌜ Here (now rows) (now code) (now cells) tracenz 47 at height ⌝ ∗ ⌜ put ≤ length (now buffer) ⌝ ∗ ⌜ spansRefusal «image_first» (now image) «work_first» (now work) ≡ 0 ⌝ }
-    ensures { λ r. ⌜ Logged at put (held (now (cells .entry)) height) (now (buffer .entry)) (recording [] (toZeroMade (fed (now (code .entry)) [] «image_first» (now (image .entry)) «work_first» (now (work .entry))) (length (now (buffer .entry)) - put) (getD (held (now (cells .entry)) height) 1 0) (getD (held (now (cells .entry)) height) 0 0))) (next (now (code .entry)) at) 2 r (now (cells .entry)) (now (buffer .exit)) ⌝ }
+    requires { ⌜ Here (now rows) (now code) (now cells) tracenz 0x2f at height ⌝ ∗ ⌜ put ≤ length (now buffer) ⌝ ∗ ⌜ spansRefusal (target «image_first» (now image) «work_first» (now work)) ≡ 0 ⌝ }
+    ensures { λ r. ⌜ Did (now (code .entry)) at put (held (now (cells .entry)) height) (now (buffer .entry)) (tracenzDone (target «image_first» (now (image .entry)) «work_first» (now (work .entry))) (length (now (buffer .entry)) - put) (held (now (cells .entry)) height)) r (now (cells .entry)) (now (buffer .exit)) ⌝ }
 {
-    let next = operations::next_of(rows, 0x2f, at);
+    let next = operations::next_of(rows, opcode::TRACENZ, at);
     let size = Stack::below(cells, height, 0);
     let address = Stack::below(cells, height, 1);
-    let recorded = record_to_zero(
+    let appended = record_to_zero(
         image_first,
         image,
         work_first,
@@ -210,8 +228,8 @@ pub fn do_tracenz<'a>(
         address,
         size,
     );
-    let after = operations::height_of(rows, 0x2f, height);
-    onward(recorded, at, height, next, after)
+    let after = operations::height_of(rows, opcode::TRACENZ, height);
+    next_after(appended, at, height, next, after)
 }
 
 // trace_quick and trace16: the size is the operand; the address stays on top. The next start is computed last: if the
@@ -233,12 +251,12 @@ pub fn do_trace_quick<'a>(
     height: usize,
     put: usize,
 ) -> Next
-    requires { ⌜ Here (now rows) (now code) (now cells) (trace-quick count) opcode at height ⌝ ∗ ⌜ put ≤ length (now buffer) ⌝ ∗ ⌜ spansRefusal «image_first» (now image) «work_first» (now work) ≡ 0 ⌝ }
-    ensures { λ r. ⌜ Logged at put (held (now (cells .entry)) height) (now (buffer .entry)) (recording (getD (held (now (cells .entry)) height) 0 0 ∷ []) (rangeMade (fed (now (code .entry)) [] «image_first» (now (image .entry)) «work_first» (now (work .entry))) (length (now (buffer .entry)) - put) (getD (held (now (cells .entry)) height) 0 0) (operand (now (code .entry)) at))) (next (now (code .entry)) at) 1 r (now (cells .entry)) (now (buffer .exit)) ⌝ }
+    requires { ⌜ Here (now rows) (now code) (now cells) (trace-quick count) opcode at height ⌝ ∗ ⌜ put ≤ length (now buffer) ⌝ ∗ ⌜ spansRefusal (target «image_first» (now image) «work_first» (now work)) ≡ 0 ⌝ }
+    ensures { λ r. ⌜ Did (now (code .entry)) at put (held (now (cells .entry)) height) (now (buffer .entry)) (traceQuickDone (target «image_first» (now (image .entry)) «work_first» (now (work .entry))) (length (now (buffer .entry)) - put) (operand (now (code .entry)) at) (held (now (cells .entry)) height)) r (now (cells .entry)) (now (buffer .exit)) ⌝ }
 {
     let size = isa::operand_at(code, at, count);
     let address = Stack::below(cells, height, 0);
-    let recorded = record_range(
+    let appended = record_range(
         image_first,
         image,
         work_first,
@@ -249,7 +267,7 @@ pub fn do_trace_quick<'a>(
         size,
     );
     let next = operations::next_of(rows, opcode, at);
-    onward(recorded, at, height, next, height)
+    next_after(appended, at, height, next, height)
 }
 
 // tracev: the value is recorded and pushed.
@@ -257,33 +275,33 @@ pub fn do_tracev(
     rows: &[[u8; 4]; 53],
     code: &[u8],
     cells: &mut [u64; Stack::DEPTH],
-    variables: &[u64; 64],
+    variables: &[u64; sizes::VARIABLE_COUNT],
     buffer: &mut [u8],
     at: usize,
     height: usize,
     put: usize,
 ) -> Next
-    requires { ⌜ Here (now rows) (now code) (now cells) tracev 46 at height ⌝ ∗ ⌜ put ≤ length (now buffer) ⌝ }
-    ensures { λ r. ⌜ Logged at put (held (now (cells .entry)) height) (now (buffer .entry)) (recording (getD (now (variables .entry)) (operand (now (code .entry)) at) 0 ∷ []) (fitting (length (now (buffer .entry)) - put) (variable (operand (now (code .entry)) at) (getD (now (variables .entry)) (operand (now (code .entry)) at) 0)))) (next (now (code .entry)) at) 0 r (now (cells .exit)) (now (buffer .exit)) ⌝ }
+    requires { ⌜ Here (now rows) (now code) (now cells) tracev 0x2e at height ⌝ ∗ ⌜ put ≤ length (now buffer) ⌝ }
+    ensures { λ r. ⌜ Did (now (code .entry)) at put (held (now (cells .entry)) height) (now (buffer .entry)) (tracevDone (now (variables .entry)) (length (now (buffer .entry)) - put) (operand (now (code .entry)) at)) r (now (cells .exit)) (now (buffer .exit)) ⌝ }
 {
-    let next = operations::next_of(rows, 0x2e, at);
+    let next = operations::next_of(rows, opcode::TRACEV, at);
     let number = isa::operand_at(code, at, 2);
     let value = variables[number as usize];
-    let recorded = record_variable(buffer, put, number as u32, value);
-    if recorded.stop == 0 {
-        let needed = operations::needed_of(rows, 0x2e);
+    let appended = record_variable(buffer, put, number as u32, value);
+    if appended.stop == 0 {
+        let needed = operations::needed_of(rows, opcode::TRACEV);
         let after = Stack::replace(cells, height, needed, value);
         return Next {
             at: next,
             height: after,
-            put: recorded.put,
+            put: appended.put,
             stop: 0,
         };
     }
     Next {
         at,
         height,
-        put: recorded.put,
-        stop: recorded.stop,
+        put: appended.put,
+        stop: appended.stop,
     }
 }

@@ -11,7 +11,7 @@ use crate::fields::number_of;
 use crate::fields::other_parts;
 use crate::fields::second_start;
 use crate::fields::size_of;
-use report::hex::Decoded;
+use hexadecimal::HexAnswer;
 
 // Room for the longest span, and for the longest buffer. They are made here alone, since the check of
 // a long array is slow.
@@ -34,8 +34,8 @@ pub fn put_bytes(text: &[u8], out: &mut [u8]) -> usize {
     if is_none(text) {
         return 0;
     }
-    match report::hex::decode(text, out) {
-        Decoded::Bytes(n) => n,
+    match hexadecimal::decode(text, out) {
+        HexAnswer::Bytes(n) => n,
         _ => BROKEN,
     }
 }
@@ -142,9 +142,9 @@ pub fn put_registers(text: &[u8], out: &mut [u64]) -> usize {
 }
 
 // NUMBER=VALUE; with no mark there is no value.
-fn put_variable(text: &[u8], out: &mut [u64; 64]) -> bool {
+fn put_variable(text: &[u8], out: &mut [u64; sizes::VARIABLE_COUNT]) -> bool {
     let number = size_of(first_part(text, b'='));
-    if 63 < number {
+    if sizes::VARIABLE_COUNT <= number {
         return false;
     }
     let value = other_parts(text, b'=');
@@ -156,7 +156,7 @@ fn put_variable(text: &[u8], out: &mut [u64; 64]) -> bool {
 }
 
 // The turns are for the proof that the loop ends: there are fewer settings than characters.
-fn put_each(text: &[u8], out: &mut [u64; 64]) -> bool {
+fn put_each(text: &[u8], out: &mut [u64; sizes::VARIABLE_COUNT]) -> bool {
     let mut rest = text;
     let mut turns = text.len();
     while turns > 0 {
@@ -174,7 +174,7 @@ fn put_each(text: &[u8], out: &mut [u64; 64]) -> bool {
 }
 
 // Whether the field is of the form; the variables are set as it says.
-pub fn put_variables(text: &[u8], out: &mut [u64; 64]) -> bool {
+pub fn put_variables(text: &[u8], out: &mut [u64; sizes::VARIABLE_COUNT]) -> bool {
     if is_none(text) {
         return true;
     }

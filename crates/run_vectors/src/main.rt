@@ -26,12 +26,12 @@ use inputs::put_span;
 use inputs::put_variables;
 use inputs::span_room;
 use libc::STDOUT_FILENO;
-use report::text::append;
 use runner::Outcome;
 use text::append_broken;
 use text::append_buffer;
 use text::append_outcome;
 use text::append_variables;
+use text_buffer::append;
 
 fn number_at(line: &[u8], place: usize) -> u64 {
     number_of(field(line, place))
@@ -48,7 +48,7 @@ fn run_given<'a>(
     registers: &[u64],
     image: &'a [u8],
     work: &'a [u8],
-    variables: &mut [u64; 64],
+    variables: &mut [u64; sizes::VARIABLE_COUNT],
     buffer: &mut [u8],
 ) -> Outcome {
     runner::run(
@@ -72,7 +72,7 @@ fn run_default<'a>(
     registers: &[u64],
     image: &'a [u8],
     work: &'a [u8],
-    variables: &mut [u64; 64],
+    variables: &mut [u64; sizes::VARIABLE_COUNT],
     buffer: &mut [u8],
 ) -> Outcome {
     runner::run_default(
@@ -96,7 +96,7 @@ fn run_case<'a>(
     registers: &[u64],
     image: &'a [u8],
     work: &'a [u8],
-    variables: &mut [u64; 64],
+    variables: &mut [u64; sizes::VARIABLE_COUNT],
     buffer: &mut [u8],
 ) -> Outcome {
     if is_number(field(line, 10)) {
@@ -108,7 +108,7 @@ fn run_case<'a>(
 fn append_left(
     out: &mut [u8],
     outcome: Outcome,
-    variables: &[u64; 64],
+    variables: &[u64; sizes::VARIABLE_COUNT],
     buffer: &[u8],
     used: usize,
 ) -> usize
@@ -130,7 +130,7 @@ fn append_by_buffer<'a>(
 ) -> usize
     ensures { λ r. ⌜ Counts r (now (out .exit)) ⌝ }
 {
-    let mut variables = [0u64; 64];
+    let mut variables = [0u64; sizes::VARIABLE_COUNT];
     if !put_variables(field(line, 2), &mut variables) {
         return append_broken(out);
     }

@@ -1,8 +1,9 @@
-// The text of an answer, appended to a buffer as `report` does.
+// The text of an answer, appended to a buffer as `text_buffer` does.
 ghost use Rattle.io.specs.Counts.{Counts};
-use report::text::append;
+use refusals::Refusal;
 use runner::Outcome;
 use runner::Value;
+use text_buffer::append;
 
 fn append_digits(out: &mut [u8], at: usize, number: u64, width: usize) -> usize
     ensures { λ r. ⌜ Counts r (now (out .exit)) ⌝ }
@@ -80,13 +81,13 @@ fn append_completed(out: &mut [u8], value: Value, steps: u64, used: usize) -> us
     append_number(out, b, b' ', used as u64)
 }
 
-fn append_refused(out: &mut [u8], number: u8, offset: usize, steps: u64, used: usize) -> usize
+fn append_refused(out: &mut [u8], refusal: Refusal, used: usize) -> usize
     ensures { λ r. ⌜ Counts r (now (out .exit)) ⌝ }
 {
     let start = append(out, 0, b"refused");
-    let a = append_number(out, start, b' ', encoding::wide(number));
-    let b = append_number(out, a, b' ', offset as u64);
-    let c = append_number(out, b, b' ', steps);
+    let a = append_number(out, start, b' ', encoding::wide(refusal.number));
+    let b = append_number(out, a, b' ', refusal.offset as u64);
+    let c = append_number(out, b, b' ', refusal.steps);
     append_number(out, c, b' ', used as u64)
 }
 
@@ -96,9 +97,7 @@ pub fn append_outcome(out: &mut [u8], outcome: Outcome, used: usize) -> usize
 {
     match outcome {
         Outcome::Completed(value, steps, end) => append_completed(out, value, steps, end),
-        Outcome::Refused(number, offset, steps) => {
-            append_refused(out, number, offset, steps, used)
-        }
+        Outcome::Refused(refusal) => append_refused(out, refusal, used),
     }
 }
 
@@ -126,13 +125,17 @@ fn next_mark(mark: u8, value: u64) -> u8 {
 }
 
 // The variables that are not 0.
-pub fn append_variables(out: &mut [u8], at: usize, variables: &[u64; 64]) -> usize
+pub fn append_variables(
+    out: &mut [u8],
+    at: usize,
+    variables: &[u64; sizes::VARIABLE_COUNT],
+) -> usize
     ensures { λ r. ⌜ Counts r (now (out .exit)) ⌝ }
 {
     let mut n = append(out, at, b"");
     let mut mark = b' ';
     let mut i = 0;
-    while i < 64 {
+    while i < sizes::VARIABLE_COUNT {
         let value = variables[i];
         n = append_variable(out, n, mark, i, value);
         mark = next_mark(mark, value);

@@ -7,11 +7,13 @@ use Prim.Native.Nat.{ℕ, suc, _+_, _-_, _≤_}
 use native.Mathlib.Omega.{arith}
 use lib.ListN.{length, getD}
 use Rattle.encoding.specs.Written.{writtenAt}
-use Rattle.isa.specs.Held.{held}
+use Rattle.isa.specs.joining.Held.{held}
 use Rattle.frames.specs.Trailer.{trailerSize, encodeTrailer}
-use Rattle.frames.specs.Writing.{written, Leaves}
-use Rattle.frames.specs.declared.Written.{Written}
-use Rattle.frames.specs.declared.Written.the-variants.{Bytes, Full}
+use Rattle.frames.specs.Writing.{written}
+use Rattle.frames.specs.joining.Answers.{Leaves}
+use Rattle.frames.specs.declared.Tag.{Tag}
+use Rattle.frames.specs.declared.Put.{Put}
+use Rattle.frames.specs.declared.Put.the-variants.{Bytes, Full}
 use Rattle.frames.proofs.Promises.{trailer-length, wrote, full}
 use Rattle.machine.specs.Machine.{no-value, top, top-and-beneath, answer}
 
@@ -33,9 +35,9 @@ answer-two a h n m =
     ap (λ (x : ℕ). top-and-beneath (getD a (x - 1) 0) (getD a (x - 2) 0)) e ∙ answer-two-by a (h - 2) ∙ ap (λ (x : ℕ). answer (held a x)) (sym e)
 
 -- a trailer that fits is written
-closed-by : (l : List ℕ) (p t n : ℕ) (r r′ : Written) {m : List ℕ} → r′ ≡ r → p + trailerSize ≤ length l → Leaves (written true l p (encodeTrailer t n)) r′ m → m ≡ writtenAt l p (encodeTrailer t n)
+closed-by : (l : List ℕ) (p : ℕ) (t : Tag) (n : ℕ) (r r′ : Put) {m : List ℕ} → r′ ≡ r → p + trailerSize ≤ length l → Leaves (written true l p (encodeTrailer t n)) r′ m → m ≡ writtenAt l p (encodeTrailer t n)
 closed-by l p t n (Bytes k) r′ q h w = wrote true l p (encodeTrailer t n) w q .bytes
 closed-by l p t n Full r′ q h w = absurd (omega (arith, full true l p (encodeTrailer t n) w q .0 refl, trailer-length t n))
 
-pub closed : (l : List ℕ) (p t n : ℕ) {r : Written} {m : List ℕ} → p + trailerSize ≤ length l → Leaves (written true l p (encodeTrailer t n)) r m → m ≡ writtenAt l p (encodeTrailer t n)
+pub closed : (l : List ℕ) (p : ℕ) (t : Tag) (n : ℕ) {r : Put} {m : List ℕ} → p + trailerSize ≤ length l → Leaves (written true l p (encodeTrailer t n)) r m → m ≡ writtenAt l p (encodeTrailer t n)
 closed l p t n {r} h w = closed-by l p t n r r refl h w

@@ -1,79 +1,87 @@
 -- What the code reports, from how the machine ended.
 use mathlib.Core.List.{List}
+use mathlib.Core.Logic.{_≢_}
 use mathlib.Core.Path.{_≡_, refl, ap, sym, _∙_}
 use Prim.Native.Nat.{ℕ, _+_, _≤_}
 use native.Mathlib.Omega.{arith}
 use lib.ListN.{length}
+use Rattle.sizes.specs.Sizes.{buffer-most}
+use Rattle.refusals.specs.declared.Refusal.{Refusal}
+use Rattle.refusals.specs.Numbers.{allowance-spent}
 use Rattle.encoding.specs.Written.{writtenAt}
 use Rattle.frames.specs.Record.{encodeAll}
-use Rattle.frames.specs.Frame.{encodeFrame}
+use Rattle.frames.specs.Trailer.{tagOf}
 use Rattle.frames.proofs.Promises.{frame-length}
 use Rattle.verdict.specs.Verdict.{accepted, verdict}
-use Rattle.machine.specs.Fed.{Fed}
-use Rattle.machine.specs.Machine.{Ended, completed, stopped}
+use Rattle.machine.specs.Given.{Given}
+use Rattle.machine.specs.Machine.{Answer, Ended, completed, stopped}
 use Rattle.machine.specs.Run.{ended, stepsOf, numberOf, leftBytes, variablesOf, usedOf, bufferOf}
-use Rattle.machine.specs.Recorded.{recordsOf}
+use Rattle.machine.specs.Recorded.{recordsOf, frameOf}
 use Rattle.machine.proofs.Promises as machine
-use Rattle.runner.specs.Returned.{returned, returnedBy, Ran, stepsReported}
+use Rattle.runner.specs.Returned.{completedWith, refusedWith, returned, returnedBy, Ran, stepsReported}
 use Rattle.runner.specs.declared.Value.{Value}
 use Rattle.runner.specs.declared.Outcome.{Outcome}
 use Rattle.runner.specs.declared.Outcome.the-variants.{Completed, Refused}
 
-steps-by : (t u : ℕ) (r : Outcome) (o : Ended) → returnedBy r ≡ returned t u o → stepsReported r ≡ stepsOf o
-unfolding returned stepsOf
-steps-by t u (Completed a n w) (completed x k v rs) p = cc
-steps-by t u (Completed a n w) (stopped x k s rs) p = absurd (let z : _≡_ {A = ℕ} 0 1 = cc in omega arith)
-steps-by t u (Refused y j n) (completed x k v rs) p = absurd (let z : _≡_ {A = ℕ} 0 1 = cc in omega arith)
-steps-by t u (Refused y j n) (stopped x k s rs) p = cc
+never : {A : Type 0} {r : Refusal} {a : Answer} {n u : ℕ} → refusedWith r ≡ completedWith a n u → A
+never p = absurd (let z : _≡_ {A = ℕ} 0 1 = cc in omega arith)
 
-number-by : (t u : ℕ) {y j n : ℕ} (o : Ended) → returnedBy (Refused y j n) ≡ returned t u o → numberOf o ≡ y
-unfolding returned numberOf
-number-by t u (completed x k v rs) p = absurd (let z : _≡_ {A = ℕ} 0 1 = cc in omega arith)
-number-by t u (stopped x k s rs) p = cc
+module _ (g : Given) where
+  steps-by : (r : Outcome) (o : Ended) → returnedBy r ≡ returned g o → stepsReported r ≡ stepsOf o
+  unfolding returned stepsOf
+  steps-by (Completed a n w) (completed x k v rs) p = cc
+  steps-by (Completed a n w) (stopped x rs) p = never (sym p)
+  steps-by (Refused y) (completed x k v rs) p = never p
+  steps-by (Refused y) (stopped x rs) p = cc
 
-pub refused-by : (t : ℕ) (v b : List ℕ) (u : ℕ) {y j n : ℕ} (o : Ended) → returnedBy (Refused y j n) ≡ returned t u o
-    → (variablesOf v o ≡ v) × (bufferOf t b u o ≡ writtenAt b u (encodeAll (recordsOf o)))
-unfolding returned variablesOf bufferOf leftBytes recordsOf
-refused-by t v b u (completed x k w rs) p = absurd (let z : _≡_ {A = ℕ} 0 1 = cc in omega arith)
-refused-by t v b u (stopped x k s rs) p = (refl, refl)
+  number-by : {y : Refusal} (o : Ended) → returnedBy (Refused y) ≡ returned g o → numberOf o ≡ y .number
+  unfolding returned numberOf
+  number-by (completed x k v rs) p = never p
+  number-by (stopped x rs) p = cc
 
-completed-by : (t : ℕ) (b : List ℕ) (u : ℕ) (a : Value) {s w : ℕ} (o : Ended) → returnedBy (Completed a s w) ≡ returned t u o
-    → (w ≡ u + length (encodeFrame t (recordsOf o))) × (bufferOf t b u o ≡ writtenAt b u (encodeFrame t (recordsOf o)))
-unfolding returned usedOf bufferOf leftBytes recordsOf encodeFrame
-completed-by t b u a (completed x k v rs) p = (cc, refl)
-completed-by t b u a (stopped x k s rs) p = absurd (let z : _≡_ {A = ℕ} 0 1 = cc in omega arith)
+  pub refused-by : {y : Refusal} (o : Ended) → returnedBy (Refused y) ≡ returned g o
+      → (variablesOf g o ≡ g .variables) × (bufferOf g o ≡ writtenAt (g .buffer) (g .used) (encodeAll (recordsOf o)))
+  unfolding returned variablesOf bufferOf leftBytes recordsOf
+  refused-by (completed x k w rs) p = never p
+  refused-by (stopped x rs) p = (refl, refl)
 
-fits-by : (m : Fed) (t : ℕ) (v b : List ℕ) (u allowance : ℕ) (a : Value) {s w : ℕ} (o : Ended) → ended m v b u allowance ≡ o → returnedBy (Completed a s w) ≡ returned t u o
-    → (u + length (encodeFrame t (recordsOf o)) ≤ length b) × (length b ≤ 65536)
-unfolding returned recordsOf
-fits-by m t v b u allowance a (completed x k z rs) e p =
-    let w = machine.completed-fits m v b u allowance x z rs e in
-    (omega (arith, w .0, frame-length t rs), w .1)
-fits-by m t v b u allowance a (stopped x k s rs) e p = absurd (let z : _≡_ {A = ℕ} 0 1 = cc in omega arith)
+  completed-by : (a : Value) {s w : ℕ} (o : Ended) → returnedBy (Completed a s w) ≡ returned g o
+      → (w ≡ g .used + length (frameOf g o)) × (bufferOf g o ≡ writtenAt (g .buffer) (g .used) (frameOf g o))
+  unfolding returned usedOf bufferOf leftBytes recordsOf
+  completed-by a (completed x k v rs) p = (cc, refl)
+  completed-by a (stopped x rs) p = never (sym p)
 
-module _ {m : Fed} {t : ℕ} {v b : List ℕ} {u allowance : ℕ} {r : Outcome} {v′ b′ : List ℕ} (ran : Ran m t v b u allowance r v′ b′) where
-  pub steps-machine : stepsReported r ≡ stepsOf (ended m v b u allowance)
-  steps-machine = steps-by t u r (ended m v b u allowance) (ran .answer)
+  fits-by : (a : Value) {s w : ℕ} (o : Ended) → ended g ≡ o → returnedBy (Completed a s w) ≡ returned g o
+      → (g .used + length (frameOf g o) ≤ length (g .buffer)) × (length (g .buffer) ≤ buffer-most)
+  unfolding returned recordsOf
+  fits-by a (completed x k z rs) e p =
+      let w = machine.completed-fits g x z rs e in
+      (omega (arith, w .0, frame-length (tagOf (g .tracepoint)) rs), w .1)
+  fits-by a (stopped x rs) e p = never (sym p)
 
-  pub steps-allowed : stepsReported r ≤ allowance
-  steps-allowed = rw steps-machine (machine.steps-allowed m v b u allowance)
+module _ {g : Given} {r : Outcome} {v b : List ℕ} (ran : Ran g r v b) where
+  pub steps-machine : stepsReported r ≡ stepsOf (ended g)
+  steps-machine = steps-by g r (ended g) (ran .answer)
 
-  pub steps-longest : {n g l : ℕ} → verdict (m .expression) ≡ accepted n g l → stepsReported r ≤ l
-  steps-longest p = rw steps-machine (machine.steps-longest m v b u allowance p)
+  pub steps-allowed : stepsReported r ≤ g .allowance
+  steps-allowed = rw steps-machine (machine.steps-allowed g)
 
-  pub allowance-enough : {n g l : ℕ} → verdict (m .expression) ≡ accepted n g l → l ≤ allowance → {k s : ℕ} → r ≡ Refused 16 k s → ⊥
-  allowance-enough p h q = machine.allowance-enough m v b u allowance p h (number-by t u (ended m v b u allowance) (ap returnedBy (sym q) ∙ ran .answer))
+  pub steps-longest : {n h l : ℕ} → verdict (g .expression) ≡ accepted n h l → stepsReported r ≤ l
+  steps-longest p = rw steps-machine (machine.steps-longest g p)
 
-  pub refused-leaves : {x k s : ℕ} → r ≡ Refused x k s → (v′ ≡ v) × (b′ ≡ writtenAt b u (encodeAll (recordsOf (ended m v b u allowance))))
+  pub allowance-enough : {n h l : ℕ} → verdict (g .expression) ≡ accepted n h l → l ≤ g .allowance → {x : Refusal} → r ≡ Refused x → x .number ≢ allowance-spent
+  allowance-enough p h q z = machine.allowance-enough g p h (number-by g (ended g) (ap returnedBy (sym q) ∙ ran .answer) ∙ z)
+
+  pub refused-leaves : {x : Refusal} → r ≡ Refused x → (v ≡ g .variables) × (b ≡ writtenAt (g .buffer) (g .used) (encodeAll (recordsOf (ended g))))
   refused-leaves q =
-      let e = refused-by t v b u (ended m v b u allowance) (ap returnedBy (sym q) ∙ ran .answer) in
+      let e = refused-by g (ended g) (ap returnedBy (sym q) ∙ ran .answer) in
       (ran .variables ∙ e .0, ran .buffer ∙ e .1)
 
-  pub completed-leaves : (a : Value) {s w : ℕ} → r ≡ Completed a s w
-      → (w ≡ u + length (encodeFrame t (recordsOf (ended m v b u allowance)))) × (b′ ≡ writtenAt b u (encodeFrame t (recordsOf (ended m v b u allowance))))
-  completed-leaves a q =
-      let e = completed-by t b u a (ended m v b u allowance) (ap returnedBy (sym q) ∙ ran .answer) in
-      (e .0, ran .buffer ∙ e .1)
+  module _ (a : Value) {s w : ℕ} (q : r ≡ Completed a s w) where
+    pub completed-leaves : (w ≡ g .used + length (frameOf g (ended g))) × (b ≡ writtenAt (g .buffer) (g .used) (frameOf g (ended g)))
+    completed-leaves =
+        let e = completed-by g a (ended g) (ap returnedBy (sym q) ∙ ran .answer) in
+        (e .0, ran .buffer ∙ e .1)
 
-  pub completed-fits : (a : Value) {s w : ℕ} → r ≡ Completed a s w → (u + length (encodeFrame t (recordsOf (ended m v b u allowance))) ≤ length b) × (length b ≤ 65536)
-  completed-fits a q = fits-by m t v b u allowance a (ended m v b u allowance) refl (ap returnedBy (sym q) ∙ ran .answer)
+    pub completed-fits : (g .used + length (frameOf g (ended g)) ≤ length (g .buffer)) × (length (g .buffer) ≤ buffer-most)
+    completed-fits = fits-by g a (ended g) refl (ap returnedBy (sym q) ∙ ran .answer)

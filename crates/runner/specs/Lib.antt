@@ -1,2 +1,3 @@
--- What the functions of `runner` give, in terms of document 01's machine.
+-- What the entries of `runner` give, in terms of document 01's machine.
 pub mod Returned
+pub mod joining

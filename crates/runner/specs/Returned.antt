@@ -4,9 +4,8 @@
 use mathlib.Core.List.{List}
 use mathlib.Core.Path.{_≡_}
 use Prim.Native.Nat.{ℕ}
-use Rattle.verdict.specs.Acceptance.{Accepted}
-use Rattle.verdict.specs.Verdict.{SetsNothing}
-use Rattle.machine.specs.Fed.{Fed}
+use Rattle.refusals.specs.declared.Refusal.{Refusal}
+use Rattle.machine.specs.Given.{Given}
 use Rattle.machine.specs.Machine.{Answer, no-value, top, top-and-beneath, Ended, completed, stopped}
 use Rattle.machine.specs.Run.{ended, variablesOf, usedOf, bufferOf}
 use Rattle.machine.specs.Recorded.{Typed}
@@ -18,13 +17,12 @@ use Rattle.runner.specs.declared.Outcome.the-variants.{Completed, Refuse
 pub data Returned : Type 0 where
   -- the answer, the steps, the used length
   completedWith : Answer → ℕ → ℕ → Returned
-  -- number, offset, steps
-  refusedWith : ℕ → ℕ → ℕ → Returned
+  refusedWith : Refusal → Returned
 
--- what document 01's machine returns, where the tracepoint number is t and the used length given is u
-unfoldable pub returned : ℕ → ℕ → Ended → Returned
-returned t u (completed a n v rs) = completedWith a n (usedOf t u (completed a n v rs))
-returned t u (stopped r k n rs) = refusedWith r k n
+-- what document 01's machine returns of what it is given, where it ends so
+unfoldable pub returned : Given → Ended → Returned
+returned g (completed a n v rs) = completedWith a n (usedOf g (completed a n v rs))
+returned g (stopped r rs) = refusedWith r
 
 -- document 01's number and values for each case of the code's answer
 abbrev pub answerOf : Value → Answer
@@ -34,37 +32,17 @@ answerOf (TopAndBeneath x y) = top-and-beneath x y
 
 abbrev pub returnedBy : Outcome → Returned
 returnedBy (Completed a n u) = completedWith (answerOf a) n u
-returnedBy (Refused r k n) = refusedWith r k n
+returnedBy (Refused r) = refusedWith r
 
 -- the steps that the code reports
 abbrev pub stepsReported : Outcome → ℕ
 stepsReported (Completed a n u) = n
-stepsReported (Refused r k n) = n
+stepsReported (Refused r) = r .steps
 
--- the run ended as o, an end of the machine, on the variables themselves: where it is refused they are as given only if
--- no instruction of the expression e is a setv
-pub record EndsIn (e : List ℕ) (t : ℕ) (v b : List ℕ) (u : ℕ) (o : Ended) (r : Outcome) (v′ b′ : List ℕ) : Type 0 where
-  pub answer : returnedBy r ≡ returned t u o
-  pub set : (a : Value) (n w : ℕ) → r ≡ Completed a n w → v′ ≡ variablesOf v o
-  pub unset : SetsNothing e → v′ ≡ v
-  pub buffer : b′ ≡ bufferOf t b u o
-
--- the run ended as o, an end of the machine: v, b and u are given, v′ and b′ are what the run leaves
-pub record EndsAs (t : ℕ) (v b : List ℕ) (u : ℕ) (o : Ended) (r : Outcome) (v′ b′ : List ℕ) : Type 0 where
-  pub answer : returnedBy r ≡ returned t u o
-  pub variables : v′ ≡ variablesOf v o
-  pub buffer : b′ ≡ bufferOf t b u o
-
--- the run ended as document 01's machine that is fed the same; and what it is given is what the types of the code say
-pub record Ran (m : Fed) (t : ℕ) (v b : List ℕ) (u allowance : ℕ) (r : Outcome) (v′ b′ : List ℕ) : Type 0 where
-  pub answer : returnedBy r ≡ returned t u (ended m v b u allowance)
-  pub variables : v′ ≡ variablesOf v (ended m v b u allowance)
-  pub buffer : b′ ≡ bufferOf t b u (ended m v b u allowance)
-  pub typed : Typed m t v
-
--- the expression is accepted, with some values
-pub record IsAccepted (e : List ℕ) : Type 0 where
-  pub count : ℕ
-  pub greatest : ℕ
-  pub longest : ℕ
-  pub accepts : Accepted e count greatest longest
+-- the run ended as document 01's machine that is given the same; v and b are the variables and the buffer that it
+-- leaves; and what it is given is what the types of the code say
+pub record Ran (g : Given) (r : Outcome) (v b : List ℕ) : Type 0 where
+  pub answer : returnedBy r ≡ returned g (ended g)
+  pub variables : v ≡ variablesOf g (ended g)
+  pub buffer : b ≡ bufferOf g (ended g)
+  pub typed : Typed g

@@ -5,17 +5,20 @@ ghost use mathlib.Core.Path.{_≡_};
 ghost use Prim.Native.Nat.{_+_, _-_, _≤_, _<_};
 ghost use lib.ListN.{length};
 ghost use Rattle.encoding.specs.Written.{writtenAt};
-ghost use Rattle.isa.specs.Held.{held};
-ghost use Rattle.isa.specs.Rows.{table};
-ghost use Rattle.memory.specs.Spans.{spansRefusal};
+ghost use Rattle.isa.specs.joining.Held.{held};
+ghost use Rattle.isa.specs.joining.Rows.{table};
+ghost use Rattle.refusals.specs.Tried.{tried};
+ghost use Rattle.memory.specs.Spans.{target, spansRefusal};
 ghost use Rattle.verdict.specs.Verdict.{SetsNothing};
-ghost use Rattle.frames.specs.Trailer.{trailerSize, encodeTrailer};
-ghost use Rattle.machine.specs.Fed.{fed, begin};
-ghost use Rattle.machine.specs.Machine.{answer, moves};
-ghost use Rattle.machine.specs.Run.{inputRefusal, defaultAllowance};
-ghost use Rattle.runner.specs.Returned.{answerOf, IsAccepted, EndsIn, EndsAs, Ran};
+ghost use Rattle.frames.specs.Trailer.{trailerSize, tagOf, encodeTrailer};
+ghost use Rattle.machine.specs.Given.{given};
+ghost use Rattle.machine.specs.Machine.{answer};
+ghost use Rattle.machine.specs.Run.{inputTests, defaultAllowance};
+ghost use Rattle.runner.specs.Returned.{answerOf, Ran};
+ghost use Rattle.runner.specs.joining.Ends.{IsAccepted, RanInPlace, RanAccepted};
 use isa::Stack;
-use verdict::Answer;
+use refusals::Refusal;
+use verdict::Verification;
 
 // What is on top of the stack at an end: no value, the top, or the top and the cell beneath.
 pub enum Value {
@@ -24,10 +27,10 @@ pub enum Value {
     TopAndBeneath(u64, u64),
 }
 
-// Completed: answer, steps, used length. Refused: number, offset, steps.
+// Completed: answer, steps, used length.
 pub enum Outcome {
     Completed(Value, u64, usize),
-    Refused(u8, usize, u64),
+    Refused(Refusal),
 }
 
 // Used by the entry that is given no allowance.
@@ -51,20 +54,21 @@ fn value_of(cells: &[u64; Stack::DEPTH], height: usize) -> Value
 // Closes the frame whose records end at `put`. The caller has seen that there is room.
 fn close_frame(buffer: &mut [u8], put: usize, tracepoint: u16, size: usize)
     requires { ⌜ put + trailerSize ≤ length (now buffer) ⌝ ∗ ⌜ size < 65537 ⌝ }
-    ensures { λ _. ⌜ now (buffer .exit) ≡ writtenAt (now (buffer .entry)) put (encodeTrailer tracepoint size) ⌝ }
+    ensures { λ _. ⌜ now (buffer .exit) ≡ writtenAt (now (buffer .entry)) put (encodeTrailer (tagOf tracepoint) size) ⌝ }
 {
-    frames::trailer::append_trailer(buffer, put, tracepoint, size as u32);
+    let tag = frames::trailer::tag_of(tracepoint);
+    frames::trailer::append_trailer(buffer, put, tag, size as u32);
 }
 
 // What a run has of its own: its stack, and a copy of the variables where it may set some. One value, so that both are
 // cleared at once.
 pub struct Own {
     pub stack: Stack,
-    pub kept: [u64; 64],
+    pub kept: [u64; sizes::VARIABLE_COUNT],
 }
 
 // Copies the variables where that is wanted.
-fn copy_if(to: &mut [u64; 64], from: &[u64; 64], wanted: bool)
+fn copy_if(to: &mut [u64; sizes::VARIABLE_COUNT], from: &[u64; sizes::VARIABLE_COUNT], wanted: bool)
     ensures { λ _. ⌜ (wanted ≡ true → now (to .exit) ≡ now (from .entry)) × (wanted ≡ false → now (to .exit) ≡ now (to .entry)) ⌝ }
 {
     if wanted {
@@ -74,7 +78,8 @@ fn copy_if(to: &mut [u64; 64], from: &[u64; 64], wanted: bool)
 
 // A run of an accepted expression on inputs that 12 to 15 allow, on the variables themselves. What is left of the
 // allowance is counted down, so that one machine instruction both counts and tests. Where a step stops, its answer has
-// the offset and the end of what is written as they were: so they are taken before `stop` is tested.
+// the offset and the end of what is written as they were: so they are taken before `stop` is tested. The value is taken
+// last, so that the caller need not ask again which kind it is.
 fn follow<'a>(
     rows: &[[u8; 4]; 53],
     code: &[u8],
@@ -84,14 +89,14 @@ fn follow<'a>(
     work_first: u64,
     work: &'a [u8],
     cells: &mut [u64; Stack::DEPTH],
-    variables: &mut [u64; 64],
+    variables: &mut [u64; sizes::VARIABLE_COUNT],
     buffer: &mut [u8],
     used: usize,
     tracepoint: u16,
     allowance: u64,
 ) -> Outcome
-    requires { ⌜ (now rows ≡ table) × IsAccepted (now code) × (spansRefusal «image_first» (now image) «work_first» (now work) ≡ 0) × (used ≤ length (now buffer)) × (length (now buffer) ≤ 65536) × (length (now cells) ≡ 64) ⌝ }
-    ensures { λ r. ⌜ EndsIn (now (code .entry)) tracepoint (now (variables .entry)) (now (buffer .entry)) used (moves (fed (now (code .entry)) (now (registers .entry)) «image_first» (now (image .entry)) «work_first» (now (work .entry))) (length (now (buffer .entry)) - used) allowance (begin (now (variables .entry)))) r (now (variables .exit)) (now (buffer .exit)) ⌝ }
+    requires { ⌜ (now rows ≡ table) × IsAccepted (now code) × (spansRefusal (target «image_first» (now image) «work_first» (now work)) ≡ 0) × (used ≤ length (now buffer)) × (length (now buffer) ≤ 65536) × (length (now cells) ≡ 64) ⌝ }
+    ensures { λ r. ⌜ RanInPlace (given (now (code .entry)) (now (registers .entry)) (now (variables .entry)) (target «image_first» (now (image .entry)) «work_first» (now (work .entry))) tracepoint (now (buffer .entry)) used allowance) r (now (variables .exit)) (now (buffer .exit)) ⌝ }
 {
     let mut height = 0;
     let mut at = 0;
@@ -120,17 +125,19 @@ fn follow<'a>(
             let steps = allowance - left;
             let counted = steps + 1;
             if next.stop == 1 {
-                let value = value_of(cells, height);
                 close_frame(buffer, put, tracepoint, put - used);
                 let length = put + frames::trailer::TRAILER_SIZE;
+                let value = value_of(cells, height);
                 return Outcome::Completed(value, counted, length);
             }
-            return Outcome::Refused(next.stop, at, steps);
+            let refusal = refusals::refusal_after(next.stop, at, steps);
+            return Outcome::Refused(refusal);
         }
         left -= 1;
     }
     let steps = allowance - left;
-    Outcome::Refused(16, at, steps)
+    let refusal = refusals::refusal_after(refusals::ALLOWANCE_SPENT, at, steps);
+    Outcome::Refused(refusal)
 }
 
 // The same, which leaves the variables as given where it is refused. Where no variable is set, they are as given: so
@@ -143,19 +150,19 @@ fn run_accepted<'a>(
     image: &'a [u8],
     work_first: u64,
     work: &'a [u8],
-    variables: &mut [u64; 64],
+    variables: &mut [u64; sizes::VARIABLE_COUNT],
     buffer: &mut [u8],
     used: usize,
     tracepoint: u16,
     allowance: u64,
     sets: bool,
 ) -> Outcome
-    requires { ⌜ (now rows ≡ table) × IsAccepted (now code) × (spansRefusal «image_first» (now image) «work_first» (now work) ≡ 0) × (used ≤ length (now buffer)) × (length (now buffer) ≤ 65536) × (sets ≡ false → SetsNothing (now code)) ⌝ }
-    ensures { λ r. ⌜ EndsAs tracepoint (now (variables .entry)) (now (buffer .entry)) used (moves (fed (now (code .entry)) (now (registers .entry)) «image_first» (now (image .entry)) «work_first» (now (work .entry))) (length (now (buffer .entry)) - used) allowance (begin (now (variables .entry)))) r (now (variables .exit)) (now (buffer .exit)) ⌝ }
+    requires { ⌜ (now rows ≡ table) × IsAccepted (now code) × (spansRefusal (target «image_first» (now image) «work_first» (now work)) ≡ 0) × (used ≤ length (now buffer)) × (length (now buffer) ≤ 65536) × (sets ≡ false → SetsNothing (now code)) ⌝ }
+    ensures { λ r. ⌜ RanAccepted (given (now (code .entry)) (now (registers .entry)) (now (variables .entry)) (target «image_first» (now (image .entry)) «work_first» (now (work .entry))) tracepoint (now (buffer .entry)) used allowance) r (now (variables .exit)) (now (buffer .exit)) ⌝ }
 {
     let mut own = Own {
         stack: Stack::empty(),
-        kept: [0u64; 64],
+        kept: [0u64; sizes::VARIABLE_COUNT],
     };
     copy_if(&mut own.kept, variables, sets);
     let outcome = follow(
@@ -175,7 +182,7 @@ fn run_accepted<'a>(
     );
     match outcome {
         Outcome::Completed(_, _, _) => outcome,
-        Outcome::Refused(_, _, _) => {
+        Outcome::Refused(_) => {
             copy_if(variables, &own.kept, sets);
             outcome
         }
@@ -192,20 +199,17 @@ fn inputs_refusal(
     buffer: &[u8],
     used: usize,
 ) -> u8
-    ensures { λ r. ⌜ r ≡ inputRefusal (fed [] (now (registers .entry)) «image_first» (now (image .entry)) «work_first» (now (work .entry))) (now (buffer .entry)) used ⌝ }
+    ensures { λ r. ⌜ r ≡ tried (inputTests (now (registers .entry)) (target «image_first» (now (image .entry)) «work_first» (now (work .entry))) (now (buffer .entry)) used) ⌝ }
 {
-    let refusal = memory::spans_refusal(image_first, image, work_first, work);
-    if refusal != 0 {
-        return refusal;
+    let number = memory::spans_refusal(image_first, image, work_first, work);
+    if number != 0 {
+        return number;
     }
-    if registers.len() > 256 {
-        return 14;
+    if sizes::REGISTERS_MOST < registers.len() {
+        return refusals::REGISTERS_MANY;
     }
-    if buffer.len() > 65536 {
-        return 15;
-    }
-    if used > buffer.len() {
-        return 15;
+    if frames::is_unfit(buffer, used) {
+        return refusals::BUFFER_BAD;
     }
     0
 }
@@ -219,13 +223,13 @@ pub fn run<'a>(
     image: &'a [u8],
     work_first: u64,
     work: &'a [u8],
-    variables: &mut [u64; 64],
+    variables: &mut [u64; sizes::VARIABLE_COUNT],
     buffer: &mut [u8],
     used: usize,
     tracepoint: u16,
     allowance: u64,
 ) -> Outcome
-    ensures { λ r. ⌜ Ran (fed (now (code .entry)) (now (registers .entry)) «image_first» (now (image .entry)) «work_first» (now (work .entry))) tracepoint (now (variables .entry)) (now (buffer .entry)) used allowance r (now (variables .exit)) (now (buffer .exit)) ⌝ }
+    ensures { λ r. ⌜ Ran (given (now (code .entry)) (now (registers .entry)) (now (variables .entry)) (target «image_first» (now (image .entry)) «work_first» (now (work .entry))) tracepoint (now (buffer .entry)) used allowance) r (now (variables .exit)) (now (buffer .exit)) ⌝ }
 {
     machine::typed(
         code,
@@ -240,9 +244,9 @@ pub fn run<'a>(
     let noted = verifier::verify_noting(code);
     let answer = noted.answer;
     match answer {
-        Answer::Refused(number, offset) => Outcome::Refused(number, offset, 0),
-        Answer::Accepted(count, greatest, longest) => {
-            let refusal = inputs_refusal(
+        Verification::Refused(refusal) => Outcome::Refused(refusal),
+        Verification::Accepted(count, greatest, longest) => {
+            let number = inputs_refusal(
                 registers,
                 image_first,
                 image,
@@ -251,8 +255,9 @@ pub fn run<'a>(
                 buffer,
                 used,
             );
-            if refusal != 0 {
-                return Outcome::Refused(refusal, 0, 0);
+            if number != 0 {
+                let refusal = refusals::refusal_at(number, 0);
+                return Outcome::Refused(refusal);
             }
             run_accepted(
                 &isa::ROWS,
@@ -281,12 +286,12 @@ pub fn run_default<'a>(
     image: &'a [u8],
     work_first: u64,
     work: &'a [u8],
-    variables: &mut [u64; 64],
+    variables: &mut [u64; sizes::VARIABLE_COUNT],
     buffer: &mut [u8],
     used: usize,
     tracepoint: u16,
 ) -> Outcome
-    ensures { λ r. ⌜ Ran (fed (now (code .entry)) (now (registers .entry)) «image_first» (now (image .entry)) «work_first» (now (work .entry))) tracepoint (now (variables .entry)) (now (buffer .entry)) used defaultAllowance r (now (variables .exit)) (now (buffer .exit)) ⌝ }
+    ensures { λ r. ⌜ Ran (given (now (code .entry)) (now (registers .entry)) (now (variables .entry)) (target «image_first» (now (image .entry)) «work_first» (now (work .entry))) tracepoint (now (buffer .entry)) used defaultAllowance) r (now (variables .exit)) (now (buffer .exit)) ⌝ }
 {
     run(
         code,

@@ -10,18 +10,18 @@ use lib.Dec.{leb, eqb}
 use lib.ListN.{length, take, drop, getD, drop-of-length-le}
 use lib.Seq.{drop-cons}
 use borrow.Author.Tests.{le-leb, lt-leb, eq-eqb, ne-eqb}
-use Rattle.encoding.proofs.Promises.{no-true}
-use Rattle.report.specs.Hex.{isBlank}
-use Rattle.report.specs.Text.{bytesOf}
-use Rattle.words.specs.Words.{Word, firstWord, behind, IsAt, sameBytes, placeFrom}
-use Rattle.words.specs.Numbers.{numberOf}
-use Rattle.words.specs.declared.Place.{Place}
-use Rattle.words.specs.declared.numbers.Number.{Number}
-use Rattle.words.specs.declared.numbers.Number.the-variants.{Value, Large, Not}
-use Rattle.words.proofs.Promises.{no-word, a-word}
-use Rattle.scenario.specs.Items.{opensComment, beforeComment, keywords, keywordOf, most, limitOf, wordFrom, isNone, ended, byNumber, numberFrom, thenBy, setFrom, pairFrom, fileFrom, sourceFrom, spanFrom, allowanceFrom, restOf, itemIn}
-use Rattle.scenario.specs.declared.Fault.{Fault}
-use Rattle.scenario.specs.declared.Fault.the-variants.{UnknownWord, MissingWord, NotNumber, TooLarge, LeftOver}
+use Rattle.logic.proofs.Promises.{no-true}
+use Rattle.hexadecimal.specs.Hex.{isBlank}
+use Rattle.text_buffer.specs.Text.{bytesOf}
+use Rattle.line_words.specs.Words.{Word, firstWord, behind, IsAt, sameBytes, placeFrom}
+use Rattle.line_words.specs.Numbers.{wordNumber}
+use Rattle.line_words.specs.declared.Place.{Place}
+use Rattle.line_words.specs.declared.numbers.Number.{Number}
+use Rattle.line_words.specs.declared.numbers.Number.the-variants.{Value, Large, Not}
+use Rattle.line_words.proofs.Promises.{no-word, a-word}
+use Rattle.scenario.specs.Items.{opensComment, columnsBeforeComment, keywords, keywordOf, most, limitOf, wordFrom, isNone, itemEnded, byNumber, numberFrom, thenBy, setFrom, pairFrom, fileFrom, sourceFrom, spanFrom, allowanceFrom, restOfLine, itemIn}
+use Rattle.scenario.specs.declared.ItemFault.{ItemFault}
+use Rattle.scenario.specs.declared.ItemFault.the-variants.{UnknownWord, MissingWord, NotNumber, TooLarge, LeftOver}
 use Rattle.scenario.specs.declared.Item.{Item}
 use Rattle.scenario.specs.declared.Item.the-variants.{Nothing, Bytes, File, Set, DefaultAllowance, Wrong}
 use Rattle.scenario.specs.declared.Found.{Found}
@@ -39,33 +39,33 @@ unless false x y p = refl
 -- ---- the loop of `before_comment`: n characters are passed, and b says whether the last of them is a blank
 pub record Cutting (line : List ℕ) (b : Bool) (n : ℕ) : Type 0 where
   pub within : n ≤ length line
-  pub rest : beforeComment true line ≡ n + beforeComment b (drop n line)
+  pub rest : columnsBeforeComment true line ≡ n + columnsBeforeComment b (drop n line)
 
 abbrev pub Cut : List ℕ → ℕ → Type 0
-Cut line n = (n ≡ beforeComment true line) × (n ≤ length line)
+Cut line n = (n ≡ columnsBeforeComment true line) × (n ≤ length line)
 
 pub cutting-start : (line : List ℕ) → Cutting line true 0
 cutting-start line = record { within = omega arith; rest = omega arith }
 
 module _ {line : List ℕ} {b : Bool} {n : ℕ} (c : Cutting line b n) where
   pub cutting-end : length line ≤ n → Cut line n
-  unfolding beforeComment
-  cutting-end h = (omega (arith, c .rest, ap (beforeComment b) (drop-of-length-le line h)), c .within)
+  unfolding columnsBeforeComment
+  cutting-end h = (omega (arith, c .rest, ap (columnsBeforeComment b) (drop-of-length-le line h)), c .within)
 
   module _ (more : n < length line) (x : Bool) (is : x ≡ opensComment b (getD line n 0)) where
-    step : beforeComment b (drop n line) ≡ cond x 0 (suc (beforeComment (isBlank (getD line n 0)) (drop (n + 1) line)))
-    unfolding beforeComment
+    step : columnsBeforeComment b (drop n line) ≡ cond x 0 (suc (columnsBeforeComment (isBlank (getD line n 0)) (drop (n + 1) line)))
+    unfolding columnsBeforeComment
     step =
         let t : drop n line ≡ getD line n 0 ∷ drop (n + 1) line = rw (add-one, drop-cons line n 0) in
-        ap (beforeComment b) t ∙ ap (λ (y : Bool). cond y 0 (suc (beforeComment (isBlank (getD line n 0)) (drop (n + 1) line)))) (sym is)
+        ap (columnsBeforeComment b) t ∙ ap (λ (y : Bool). cond y 0 (suc (columnsBeforeComment (isBlank (getD line n 0)) (drop (n + 1) line)))) (sym is)
 
     pub cutting-stop : x ≡ true → Cut line n
     cutting-stop t = (omega (arith, c .rest, rw t at step), c .within)
 
     pub cutting-more : x ≡ false → (d : Bool) → d ≡ isBlank (getD line n 0) → Cutting line d (n + 1)
     cutting-more f d e =
-        let q : beforeComment b (drop n line) ≡ suc (beforeComment d (drop (n + 1) line))
-        = (rw f at step) ∙ ap (λ (y : Bool). suc (beforeComment y (drop (n + 1) line))) (sym e) in
+        let q : columnsBeforeComment b (drop n line) ≡ suc (columnsBeforeComment d (drop (n + 1) line))
+        = (rw f at step) ∙ ap (λ (y : Bool). suc (columnsBeforeComment y (drop (n + 1) line))) (sym e) in
         record { within = omega arith; rest = omega (arith, c .rest, q) }
 
 -- ---- `keyword_of`: the word is none of the first k, or it is the next
@@ -124,8 +124,8 @@ module _ (line : List ℕ) (p : ℕ) {r : Place} (i : IsAt line r (firstWord p (
   is-text s b e = sym (e ∙ ap (sameBytes s) (i .bytes-is))
 
   module _ (none : r .start ≡ r .end) where
-    pub ends-here : (x : Item) → x ≡ ended x line p
-    unfolding ended
+    pub ends-here : (x : Item) → x ≡ itemEnded x line p
+    unfolding itemEnded
     ends-here x = rw (no-word i none)
 
     pub number-none : (limit : ℕ) → Found·wrong MissingWord (r .start) ≡ numberFrom limit line p
@@ -141,21 +141,21 @@ module _ (line : List ℕ) (p : ℕ) {r : Place} (i : IsAt line r (firstWord p (
     source-none k first = rw (no-word i none) (ap (Wrong MissingWord) (i .start-is))
 
   module _ (some : r .start ≡ r .end → ⊥) where
-    pub ends-later : (x : Item) → Wrong LeftOver (r .start) ≡ ended x line p
-    unfolding ended
+    pub ends-later : (x : Item) → Wrong LeftOver (r .start) ≡ itemEnded x line p
+    unfolding itemEnded
     ends-later x = rw (a-word i some) (ap (Wrong LeftOver) (i .start-is))
 
-    pub file-named : (k first : ℕ) → ended (File k first (r .start) (r .end)) line (r .end) ≡ fileFrom k first line p
+    pub file-named : (k first : ℕ) → itemEnded (File k first (r .start) (r .end)) line (r .end) ≡ fileFrom k first line p
     unfolding fileFrom
     file-named k first =
         rw (a-word i some)
-        (ap (λ (s : ℕ). ended (File k first s (r .end)) line (r .end)) (i .start-is) ∙ goes-on (λ e. ended (File k first (word .column) e) line e))
+        (ap (λ (s : ℕ). itemEnded (File k first s (r .end)) line (r .end)) (i .start-is) ∙ goes-on (λ e. itemEnded (File k first (word .column) e) line e))
 
     -- a number, which is x
-    module _ (limit : ℕ) (x : Number) (is : x ≡ numberOf text) where
+    module _ (limit : ℕ) (x : Number) (is : x ≡ wordNumber text) where
       by-number : byNumber limit word x ≡ numberFrom limit line p
       unfolding numberFrom
-      by-number = rw (a-word i some) (ap (byNumber limit word) (is ∙ ap numberOf (i .bytes-is)))
+      by-number = rw (a-word i some) (ap (byNumber limit word) (is ∙ ap wordNumber (i .bytes-is)))
 
       pub number-not : x ≡ Not → Found·wrong NotNumber (r .start) ≡ numberFrom limit line p
       number-not h = ap (Found·wrong NotNumber) (i .start-is) ∙ ap (byNumber limit word) (sym h) ∙ by-number
@@ -197,9 +197,9 @@ module _ (line : List ℕ) (p : ℕ) {r : Place} (i : IsAt line r (firstWord p (
 
   -- `default`, or a number
   module _ (b : Bool) (is : b ≡ sameBytes (bytesOf "default") text) where
-    pub allowance-default : b ≡ true → ended DefaultAllowance line (r .end) ≡ allowanceFrom line p
+    pub allowance-default : b ≡ true → itemEnded DefaultAllowance line (r .end) ≡ allowanceFrom line p
     unfolding allowanceFrom
-    allowance-default t = goes-on (ended DefaultAllowance line) ∙ when (sameBytes (bytesOf "default") (word .bytes)) _ _ (is-text (bytesOf "default") b is ∙ t)
+    allowance-default t = goes-on (itemEnded DefaultAllowance line) ∙ when (sameBytes (bytesOf "default") (word .bytes)) _ _ (is-text (bytesOf "default") b is ∙ t)
 
     pub allowance-number : b ≡ false → setFrom 7 0 most line p ≡ allowanceFrom line p
     unfolding allowanceFrom
@@ -210,10 +210,10 @@ module _ (limit : ℕ) (line : List ℕ) (p : ℕ) (x : Found) (is : x ≡ numbe
   by-found : (y : Found) → x ≡ y → (f : ℕ → ℕ → Item) → thenBy y f ≡ thenBy (numberFrom limit line p) f
   by-found y h f = ap (λ (z : Found). thenBy z f) (sym h ∙ is)
 
-  module _ (e : Fault) (c : ℕ) (h : x ≡ Found·wrong e c) where
+  module _ (e : ItemFault) (c : ℕ) (h : x ≡ Found·wrong e c) where
     pub set-wrong : (k which : ℕ) → Wrong e c ≡ setFrom k which limit line p
     unfolding setFrom
-    set-wrong k which = by-found (Found·wrong e c) h (λ v q. ended (Set k which v) line q)
+    set-wrong k which = by-found (Found·wrong e c) h (λ v q. itemEnded (Set k which v) line q)
 
     pub pair-wrong : (k : ℕ) → limit ≡ limitOf k → Wrong e c ≡ pairFrom k line p
     unfolding pairFrom
@@ -224,9 +224,9 @@ module _ (limit : ℕ) (line : List ℕ) (p : ℕ) (x : Found) (is : x ≡ numbe
     span-wrong k l = rw (sym l) (by-found (Found·wrong e c) h (λ first q. sourceFrom k first line q))
 
   module _ (v q : ℕ) (h : x ≡ Found·number v q) where
-    pub set-then : (k which : ℕ) → ended (Set k which v) line q ≡ setFrom k which limit line p
+    pub set-then : (k which : ℕ) → itemEnded (Set k which v) line q ≡ setFrom k which limit line p
     unfolding setFrom
-    set-then k which = by-found (Found·number v q) h (λ v q. ended (Set k which v) line q)
+    set-then k which = by-found (Found·number v q) h (λ v q. itemEnded (Set k which v) line q)
 
     pub pair-then : (k : ℕ) → limit ≡ limitOf k → setFrom k v most line q ≡ pairFrom k line p
     unfolding pairFrom
@@ -242,9 +242,9 @@ module _ (line : List ℕ) {r : Place} (i : IsAt line r (firstWord 0 line)) wher
   unfolding itemIn
   item-none h = rw (no-word i h)
 
-  pub item-some : (r .start ≡ r .end → ⊥) → (k : ℕ) → k ≡ keywordOf (take (r .end - r .start) (drop (r .start) line)) → restOf k (r .start) line (r .end) ≡ itemIn line
+  pub item-some : (r .start ≡ r .end → ⊥) → (k : ℕ) → k ≡ keywordOf (take (r .end - r .start) (drop (r .start) line)) → restOfLine k (r .start) line (r .end) ≡ itemIn line
   unfolding itemIn
   item-some some k e =
       rw (a-word i some)
-      (ap (λ (c : ℕ). restOf k c line (r .end)) (i .start-is) ∙ ap (restOf k (firstWord 0 line .column) line) (i .end-is)
-      ∙ ap (λ (j : ℕ). restOf j (firstWord 0 line .column) line (behind (firstWord 0 line))) (e ∙ ap keywordOf (i .bytes-is)))
+      (ap (λ (c : ℕ). restOfLine k c line (r .end)) (i .start-is) ∙ ap (restOfLine k (firstWord 0 line .column) line) (i .end-is)
+      ∙ ap (λ (j : ℕ). restOfLine j (firstWord 0 line .column) line (behind (firstWord 0 line))) (e ∙ ap keywordOf (i .bytes-is)))

@@ -3,12 +3,12 @@ ghost use mathlib.Core.Bool.{true};
 ghost use mathlib.Core.Path.{_≡_};
 ghost use Prim.Native.Nat.{ℕ, _≤_};
 ghost use lib.ListN.{length};
-ghost use Rattle.scenario.specs.Items.{opensComment, beforeComment, keywordOf, limitOf, ended, numberFrom, setFrom, pairFrom, fileFrom, sourceFrom, spanFrom, allowanceFrom, restOf, itemIn, itemOf};
-use report::hex::is_blank;
-use words::is_same;
-use words::next_word;
-use words::numbers::Number;
-use words::numbers::number_of;
+ghost use Rattle.scenario.specs.Items.{opensComment, columnsBeforeComment, keywordOf, limitOf, itemEnded, numberFrom, setFrom, pairFrom, fileFrom, sourceFrom, spanFrom, allowanceFrom, restOfLine, itemIn, itemOf};
+use hexadecimal::is_blank;
+use line_words::is_same;
+use line_words::next_word;
+use line_words::numbers::Number;
+use line_words::numbers::number_of;
 
 // The words that lines begin with, by their numbers.
 pub const IMAGE: u8 = 0;
@@ -34,7 +34,7 @@ pub const SAVE: u8 = 9;
 pub const RUN: u8 = 10;
 
 // Why a line is refused.
-pub enum Fault {
+pub enum ItemFault {
     UnknownWord,
     MissingWord,
     NotNumber,
@@ -52,13 +52,13 @@ pub enum Item {
     File(u8, u64, usize, usize),
     Set(u8, u64, u64),
     DefaultAllowance,
-    Wrong(Fault, usize),
+    Wrong(ItemFault, usize),
 }
 
 // A number and the column behind it; or a fault, at a column.
 enum Found {
     Number(u64, usize),
-    Wrong(Fault, usize),
+    Wrong(ItemFault, usize),
 }
 
 fn opens_comment(is_after_blank: bool, c: u8) -> bool
@@ -72,7 +72,7 @@ fn opens_comment(is_after_blank: bool, c: u8) -> bool
 
 // How many characters come before the comment.
 fn before_comment(line: &[u8]) -> usize
-    ensures { λ r. ⌜ (r ≡ beforeComment true (now (line .entry))) × (r ≤ length (now (line .entry))) ⌝ }
+    ensures { λ r. ⌜ (r ≡ columnsBeforeComment true (now (line .entry))) × (r ≤ length (now (line .entry))) ⌝ }
 {
     let mut is_after_blank = true;
     let mut n = 0;
@@ -127,16 +127,27 @@ fn keyword_of(word: &[u8]) -> u8
     11
 }
 
+// The limits of numbers: one register more than may be lent can be asked for, so that 14 can be seen.
+const LAST_REGISTER: u64 = sizes::REGISTERS_MOST as u64 - 1;
+
+const LAST_VARIABLE: u64 = sizes::VARIABLE_COUNT as u64 - 1;
+
+const ONE_TOO_MANY: u64 = sizes::REGISTERS_MOST as u64 + 1;
+
+const LAST_TRACEPOINT: u64 = u16::MAX as u64;
+
+const BUFFER_SIZE: u64 = sizes::BUFFER_MOST as u64;
+
 // The greatest number that may follow a first word.
 fn limit(keyword: u8) -> u64
     ensures { λ r. ⌜ r ≡ limitOf keyword ⌝ }
 {
     match keyword {
-        2 => 255,
-        3 => 63,
-        4 => 257,
-        5 => 65535,
-        6 => 65536,
+        REGISTER => LAST_REGISTER,
+        VARIABLE => LAST_VARIABLE,
+        REGISTERS => ONE_TOO_MANY,
+        TRACEPOINT => LAST_TRACEPOINT,
+        BUFFER => BUFFER_SIZE,
         _ => u64::MAX,
     }
 }
@@ -144,14 +155,14 @@ fn limit(keyword: u8) -> u64
 // The item, if no word follows from column `at` on.
 fn ends(line: &[u8], at: usize, item: Item) -> Item
     requires { ⌜ at ≤ length (now line) ⌝ }
-    ensures { λ r. ⌜ r ≡ ended item (now (line .entry)) at ⌝ }
+    ensures { λ r. ⌜ r ≡ itemEnded item (now (line .entry)) at ⌝ }
 {
     let word = next_word(line, at);
     let start = word.start;
     if start == word.end {
         return item;
     }
-    Item::Wrong(Fault::LeftOver, start)
+    Item::Wrong(ItemFault::LeftOver, start)
 }
 
 // The first word from column `at` on as a number.
@@ -164,16 +175,16 @@ fn number_at(line: &[u8], at: usize, limit: u64) -> Found
     let start = word.start;
     let end = word.end;
     if start == end {
-        return Found::Wrong(Fault::MissingWord, start);
+        return Found::Wrong(ItemFault::MissingWord, start);
     }
     match number_of(&line[start..end]) {
-        Number::Not => Found::Wrong(Fault::NotNumber, start),
-        Number::Large => Found::Wrong(Fault::TooLarge, start),
+        Number::Not => Found::Wrong(ItemFault::NotNumber, start),
+        Number::Large => Found::Wrong(ItemFault::TooLarge, start),
         Number::Value(v) => {
             if v <= limit {
                 return Found::Number(v, end);
             }
-            Found::Wrong(Fault::TooLarge, start)
+            Found::Wrong(ItemFault::TooLarge, start)
         }
     }
 }
@@ -207,7 +218,7 @@ fn read_file(line: &[u8], at: usize, keyword: u8, first: u64) -> Item
     let start = word.start;
     let end = word.end;
     if start == end {
-        return Item::Wrong(Fault::MissingWord, start);
+        return Item::Wrong(ItemFault::MissingWord, start);
     }
     ends(line, end, Item::File(keyword, first, start, end))
 }
@@ -221,7 +232,7 @@ fn read_source(line: &[u8], at: usize, keyword: u8, first: u64) -> Item
     let start = word.start;
     let end = word.end;
     if start == end {
-        return Item::Wrong(Fault::MissingWord, start);
+        return Item::Wrong(ItemFault::MissingWord, start);
     }
     if is_same(b"bytes", &line[start..end]) {
         return Item::Bytes(keyword, first, end, line.len());
@@ -229,7 +240,7 @@ fn read_source(line: &[u8], at: usize, keyword: u8, first: u64) -> Item
     if is_same(b"file", &line[start..end]) {
         return read_file(line, end, keyword, first);
     }
-    Item::Wrong(Fault::UnknownWord, start)
+    Item::Wrong(ItemFault::UnknownWord, start)
 }
 
 fn read_span(line: &[u8], at: usize, keyword: u8) -> Item
@@ -258,7 +269,7 @@ fn read_allowance(line: &[u8], at: usize) -> Item
 // The line from column `at` on, behind its first word, which is at `start`.
 fn read_rest(line: &[u8], start: usize, at: usize, keyword: u8) -> Item
     requires { ⌜ at ≤ length (now line) ⌝ }
-    ensures { λ r. ⌜ r ≡ restOf keyword start (now (line .entry)) at ⌝ }
+    ensures { λ r. ⌜ r ≡ restOfLine keyword start (now (line .entry)) at ⌝ }
 {
     if keyword <= MEMORY {
         return read_span(line, at, keyword);
@@ -278,7 +289,7 @@ fn read_rest(line: &[u8], start: usize, at: usize, keyword: u8) -> Item
     if keyword == RUN {
         return Item::Bytes(RUN, 0, at, line.len());
     }
-    Item::Wrong(Fault::UnknownWord, start)
+    Item::Wrong(ItemFault::UnknownWord, start)
 }
 
 fn read_item(line: &[u8]) -> Item

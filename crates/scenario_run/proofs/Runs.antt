@@ -3,7 +3,8 @@ use Prim.Native.Nat.{ℕ}
 use mathlib.Core.Bool.{true, false}
 use mathlib.Core.List.{List}
 use mathlib.Core.Path.{_≡_}
-use Rattle.machine.specs.Fed.{fed}
+use Rattle.memory.specs.Spans.{target}
+use Rattle.machine.specs.Given.{given}
 use Rattle.machine.specs.Run.{defaultAllowance}
 use Rattle.runner.specs.Returned.{Ran}
 use Rattle.runner.specs.declared.Outcome.{Outcome}
@@ -26,6 +27,6 @@ pub ran-with :
     → i ≡ i′
     → m ≡ m′
     → a ≡ a′
-    → Ran (fed e r f i g m) t v b u a o v′ b′
-    → Ran (fed e r′ f i′ g m′) t v b u a′ o v′ b′
+    → Ran (given e r v (target f i g m) t b u a) o v′ b′
+    → Ran (given e r′ v (target f i′ g m′) t b u a′) o v′ b′
 ran-with p q w z h = rw (← p, ← q, ← w, ← z) h

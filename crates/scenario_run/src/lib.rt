@@ -1,6 +1,6 @@
 // A run with what the lines of a scenario have set.
 ghost use Rattle.runner.specs.Returned.{Ran};
-ghost use Rattle.scenario_run.specs.Runs.{fedBy, tracepointOf, allowanceOf};
+ghost use Rattle.scenario_run.specs.Runs.{givenBy};
 use runner::Outcome;
 use scenario_setting::Setting;
 use scenario_setting::first_bytes;
@@ -13,10 +13,10 @@ pub fn run_with<'a>(
     registers: &[u64],
     image: &'a [u8],
     memory: &'a [u8],
-    variables: &mut [u64; 64],
+    variables: &mut [u64; sizes::VARIABLE_COUNT],
     buffer: &mut [u8],
 ) -> Outcome
-    ensures { λ r. ⌜ Ran (fedBy setting (now (code .entry)) (now (registers .entry)) (now (image .entry)) (now (memory .entry))) (tracepointOf setting) (now (variables .entry)) (now (buffer .entry)) (setting .buffer .used) (allowanceOf setting) r (now (variables .exit)) (now (buffer .exit)) ⌝ }
+    ensures { λ r. ⌜ Ran (givenBy setting (now (code .entry)) (now (registers .entry)) (now (variables .entry)) (now (image .entry)) (now (memory .entry)) (now (buffer .entry))) r (now (variables .exit)) (now (buffer .exit)) ⌝ }
 {
     let lent = first_registers(registers, setting.registers);
     let program = first_bytes(image, setting.image.len);

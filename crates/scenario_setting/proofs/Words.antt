@@ -5,30 +5,31 @@ use mathlib.Core.List.{List}
 use mathlib.Core.Path.{_≡_}
 use lib.ListN.{set}
 use borrow.Author.Tests.{lt-ltb, le-ltb, ne-eqb}
-use Rattle.words.specs.Words.{placeFrom}
+use Rattle.sizes.specs.Sizes.{registers-most}
+use Rattle.line_words.specs.Words.{placeFrom}
 use Rattle.scenario.specs.Items.{keywords, keywordOf}
-use Rattle.scenario_setting.specs.Settings.{span, setting, withSpan, lentWith, withNumber, registersAfter, variableSet, variablesAfter}
+use Rattle.scenario_setting.specs.Settings.{spanSetting, setting, withSpan, lentWith, withNumber, registersAfter, variableSet, variablesSet}
 use Rattle.scenario_setting.specs.declared.Setting.{Setting}
 
 -- ---- spans
 module _ (s : Setting) (k first long : ℕ) where
-  pub span-image : k ≡ 0 → setting (s .registers) (span first long) (s .memory) (s .tracepoint) (s .buffer) (s .allowance) (s .«is_stopped») ≡ withSpan s k first long
+  pub span-image : k ≡ 0 → setting (s .registers) (spanSetting first long) (s .memory) (s .tracepoint) (s .buffer) (s .allowance) (s .«is_stopped») ≡ withSpan s k first long
   unfolding keywords keywordOf placeFrom withSpan
   span-image p = rw p
 
-  pub span-memory : (k ≡ 0 → ⊥) → setting (s .registers) (s .image) (span first long) (s .tracepoint) (s .buffer) (s .allowance) (s .«is_stopped») ≡ withSpan s k first long
+  pub span-memory : (k ≡ 0 → ⊥) → setting (s .registers) (s .image) (spanSetting first long) (s .tracepoint) (s .buffer) (s .allowance) (s .«is_stopped») ≡ withSpan s k first long
   unfolding keywords keywordOf placeFrom withSpan
   span-memory p = rw (ne-eqb k 0 p)
 
 -- ---- registers lent
 module _ (n lent : ℕ) where
-  pub lent-beyond : 255 < n → lent ≡ lentWith n lent
+  pub lent-beyond : registers-most ≤ n → lent ≡ lentWith n lent
   unfolding lentWith
-  lent-beyond h = rw (le-ltb n 256 (omega arith))
+  lent-beyond h = rw (le-ltb n registers-most h)
 
-  pub lent-within : n ≤ 255 → (r : ℕ) → r ≡ max lent (n + 1) → r ≡ lentWith n lent
+  pub lent-within : n < registers-most → (r : ℕ) → r ≡ max lent (n + 1) → r ≡ lentWith n lent
   unfolding lentWith
-  lent-within h r p = rw (lt-ltb n 256 (omega arith)) p
+  lent-within h r p = rw (lt-ltb n registers-most h) p
 
 -- ---- numbers
 module _ (s : Setting) (k n v : ℕ) where
@@ -59,10 +60,10 @@ module _ (n v : ℕ) (l : List ℕ) where
     unfolding keywords keywordOf placeFrom registersAfter
     registers-same p = rw (ne-eqb k 2 p)
 
-    pub variables-set : k ≡ 3 → variableSet n v l ≡ variablesAfter k n v l
-    unfolding keywords keywordOf placeFrom variablesAfter
+    pub variables-set : k ≡ 3 → variableSet n v l ≡ variablesSet k n v l
+    unfolding keywords keywordOf placeFrom variablesSet
     variables-set p = rw p
 
-    pub variables-same : (k ≡ 3 → ⊥) → l ≡ variablesAfter k n v l
-    unfolding keywords keywordOf placeFrom variablesAfter
+    pub variables-same : (k ≡ 3 → ⊥) → l ≡ variablesSet k n v l
+    unfolding keywords keywordOf placeFrom variablesSet
     variables-same p = rw (ne-eqb k 3 p)

@@ -2,7 +2,7 @@
 ghost use mathlib.Core.Path.{_≡_};
 ghost use lib.ListN.{set, take};
 ghost use Rattle.scenario_setting.specs.Settings.{begun, withStop, withDefault, withUsed, withSpan, lentWith, withNumber};
-ghost use Rattle.scenario_setting.specs.Settings.{registersAfter, variableSet, variablesAfter};
+ghost use Rattle.scenario_setting.specs.Settings.{registersAfter, variableSet, variablesSet};
 use scenario::ALLOWANCE;
 use scenario::BUFFER;
 use scenario::IMAGE;
@@ -12,7 +12,7 @@ use scenario::TRACEPOINT;
 use scenario::VARIABLE;
 
 // The first address of a span, and its length.
-pub struct Span {
+pub struct SpanSetting {
     pub first: u64,
     pub len: usize,
 }
@@ -32,8 +32,8 @@ pub struct Allowance {
 // As many registers are lent as `registers` says; `is_stopped` says that a wrong line has ended the scenario.
 pub struct Setting {
     pub registers: usize,
-    pub image: Span,
-    pub memory: Span,
+    pub image: SpanSetting,
+    pub memory: SpanSetting,
     pub tracepoint: u64,
     pub buffer: Buffer,
     pub allowance: Allowance,
@@ -45,11 +45,11 @@ pub fn start() -> Setting
 {
     Setting {
         registers: 0,
-        image: Span { first: 0, len: 0 },
-        memory: Span { first: 0, len: 0 },
+        image: SpanSetting { first: 0, len: 0 },
+        memory: SpanSetting { first: 0, len: 0 },
         tracepoint: 0,
         buffer: Buffer {
-            size: 65536,
+            size: sizes::BUFFER_MOST,
             used: 0,
         },
         allowance: Allowance {
@@ -88,7 +88,7 @@ pub fn with_span(before: Setting, keyword: u8, first: u64, len: usize) -> Settin
     ensures { λ r. ⌜ r ≡ withSpan before keyword first len ⌝ }
 {
     let mut s = before;
-    let span = Span { first, len };
+    let span = SpanSetting { first, len };
     if keyword == IMAGE {
         s.image = span;
         return s;
@@ -102,7 +102,7 @@ fn lent_with(number: u64, lent: usize) -> usize
     ensures { λ r. ⌜ r ≡ lentWith number lent ⌝ }
 {
     let n = number as usize;
-    if 255 < n {
+    if sizes::REGISTERS_MOST <= n {
         return lent;
     }
     if n < lent {
@@ -149,18 +149,24 @@ fn set_register(registers: &mut [u64], number: usize, value: u64)
     }
 }
 
-fn set_variable(variables: &mut [u64; 64], number: usize, value: u64)
+fn set_variable(variables: &mut [u64; sizes::VARIABLE_COUNT], number: usize, value: u64)
     ensures { λ _. ⌜ now (variables .exit) ≡ variableSet number value (now (variables .entry)) ⌝ }
 {
-    if number < 64 {
+    if number < sizes::VARIABLE_COUNT {
         variables[number] = value;
     }
 }
 
 // The value of a register or variable.
-pub fn store(keyword: u8, number: u64, value: u64, registers: &mut [u64], variables: &mut [u64; 64])
+pub fn store(
+    keyword: u8,
+    number: u64,
+    value: u64,
+    registers: &mut [u64],
+    variables: &mut [u64; sizes::VARIABLE_COUNT],
+)
     ensures registers { λ _. ⌜ now (registers .exit) ≡ registersAfter keyword number value (now (registers .entry)) ⌝ }
-    ensures variables { λ _. ⌜ now (variables .exit) ≡ variablesAfter keyword number value (now (variables .entry)) ⌝ }
+    ensures variables { λ _. ⌜ now (variables .exit) ≡ variablesSet keyword number value (now (variables .entry)) ⌝ }
 {
     if keyword == REGISTER {
         set_register(registers, number as usize, value);

@@ -1,42 +1,33 @@
 -- From what a function of a class gives to what a step gives.
-use mathlib.Core.Bool.{Bool, true, false, cond, not, _&&_}
-use mathlib.Core.List.{List, [], _∷_, _++_}
+use mathlib.Core.Bool.{Bool, true, false, cond, _&&_}
+use mathlib.Core.List.{List, [], _∷_}
 use mathlib.Core.Logic.{_≢_, ⊎-elim}
 use mathlib.Core.Path.{_≡_, refl, ap, sym, _∙_}
 use Prim.Native.Nat.{ℕ, _+_, _-_, _≤_, _<_}
 use native.Mathlib.Nat.{add-zero}
 use native.Mathlib.Omega.{arith}
-use lib.ListN.{length, getD, drop, set}
+use lib.ListN.{length, getD, set}
 use lib.Dec.{T, eqb, leb, leb→le}
 use types.Run.{OneOf}
 use borrow.Author.Tests.{ne-eqb}
-use Rattle.encoding.proofs.Promises.{and-left, and-right, written-nothing}
-use Rattle.isa.specs.Classes.{Class, unsupported, unknown, member, opcodes, classOf, row, kind, kind-unsupported, kind-goto, kind-if-goto, kind-end}
-use Rattle.isa.specs.Decode.{classAt, next, operand}
-use Rattle.isa.specs.Held.{held}
-use Rattle.isa.proofs.Promises.{needed-class, known-low}
+use Rattle.logic.specs.Tests.{member}
+use Rattle.logic.proofs.Promises.{and-left, and-right}
+use Rattle.refusals.specs.Numbers.{buffer-full}
+use Rattle.sizes.specs.Sizes.{stack-cells}
+use Rattle.encoding.proofs.Promises.{written-nothing}
+use Rattle.isa.specs.Classes.{Class, unsupported, unknown, opcodes, classOf, kind, kind-unsupported, kind-end}
+use Rattle.isa.specs.Decode.{classAt, operand}
+use Rattle.isa.specs.joining.Held.{held}
+use Rattle.isa.proofs.Promises.{known-low}
 use Rattle.frames.specs.Record.{Record, encodeAll}
 use Rattle.frames.specs.Trailer.{trailerSize}
-use Rattle.machine.specs.Fed.{Fed}
-use Rattle.machine.specs.Meaning.{Done, leaves, faults, meaning, endDone, done, stackAfter, variablesAfter, offsetAfter}
+use Rattle.machine.specs.Given.{Fixed}
+use Rattle.machine.specs.Meaning.{Done, leaves, faults, meaning, endDone, done, stackAfter, isSetv, variablesAfter, offsetAfter}
 use Rattle.operations.specs.declared.Next.{Next}
-use Rattle.operations.specs.Here.{onTop}
-use Rattle.operations.specs.Moved.{Quiet, Moved}
-use Rattle.recording.specs.Logged.{Logged}
-use Rattle.stepping.specs.Effect.{goes, completes, effectOf, effect, Did, Ends}
+use Rattle.operations.specs.joining.Did.{Did}
+use Rattle.stepping.specs.joining.Effect.{Effect, goes, completes, refuses, effectOf, effect, effectNumber, effectOffset, effectStack, effectVariables, effectRecords, DidStep, DidEnd}
 
--- where an instruction of the class goes
-abbrev pub offsetBy : Class → List ℕ → ℕ → List ℕ → ℕ
-offsetBy c e k s =
-    cond (eqb (kind c) kind-goto) (operand e k)
-    (cond (eqb (kind c) kind-if-goto && not (eqb (getD s 0 0) 0)) (operand e k) (next e k))
-
--- if_goto goes on where the cell is 0
-pub branch-offset : (b : Bool) (x y : ℕ) → cond (not b) x y ≡ cond b y x
-branch-offset true x y = refl
-branch-offset false x y = refl
-
-module _ (m : Fed) (k : ℕ) (s v : List ℕ) (free op : ℕ) (c : Class) (q : classOf op ≡ c) (f : getD (m .expression) k 0 ≡ op) where
+module _ (m : Fixed) (k : ℕ) (s v : List ℕ) (free op : ℕ) (c : Class) (q : classOf op ≡ c) (f : getD (m .expression) k 0 ≡ op) where
   class-at : classAt (m .expression) k ≡ c
   class-at = ap classOf f ∙ q
 
@@ -44,80 +35,23 @@ module _ (m : Fed) (k : ℕ) (s v : List ℕ) (free op : ℕ) (c : Class) (q : c
   unfolding done
   done-at = rw (f, q) refl
 
-  offset-at : offsetAfter (m .expression) k s ≡ offsetBy c (m .expression) k s
-  unfolding offsetAfter
-  offset-at = rw class-at refl
-
-  stack-at : (cells : List ℕ) → stackAfter (m .expression) k s cells ≡ cells ++ drop (getD (row c) 1 0 + onTop c (m .expression) k) s
-  unfolding stackAfter
-  stack-at cells = rw (needed-class (m .expression) k c class-at) refl
-
-  stack-is : {n : ℕ} → getD (row c) 1 0 + onTop c (m .expression) k ≡ n → (cells : List ℕ) → stackAfter (m .expression) k s cells ≡ cells ++ drop n s
-  stack-is w cells = stack-at cells ∙ ap (λ (x : ℕ). cells ++ drop x s) w
-
   -- an instruction that is no end and leaves cells goes on
   on-goes : eqb (kind c) kind-end ≡ false → (cells : List ℕ) (rs : List Record)
       → effectOf (m .expression) k s v (leaves cells rs) ≡ goes (offsetAfter (m .expression) k s) (stackAfter (m .expression) k s cells) (variablesAfter (m .expression) k s v) rs
   on-goes z cells rs = rw (class-at, z) refl
 
-  same-variables : eqb op 0x2d ≡ false → variablesAfter (m .expression) k s v ≡ v
+  same-variables : isSetv c ≡ false → variablesAfter (m .expression) k s v ≡ v
   unfolding variablesAfter
-  same-variables z = rw (f, z) refl
+  same-variables z = rw (class-at, z) refl
 
-  set-variables : eqb op 0x2d ≡ true → variablesAfter (m .expression) k s v ≡ set v (operand (m .expression) k) (getD s 0 0)
+  set-variables : isSetv c ≡ true → variablesAfter (m .expression) k s v ≡ set v (operand (m .expression) k) (getD s 0 0)
   unfolding variablesAfter
-  set-variables z = rw (f, z) refl
+  set-variables z = rw (class-at, z) refl
 
-  module _ (z : eqb (kind c) kind-end ≡ false) {b : List ℕ} {p : ℕ} {r : Next} {a : List ℕ} {t n : ℕ}
-      (o : offsetBy c (m .expression) k s ≡ t) (w : getD (row c) 1 0 + onTop c (m .expression) k ≡ n) where
-    moved-by : (d : Done) {v′ : List ℕ} → variablesAfter (m .expression) k s v ≡ v′ → Quiet d → Moved k p s d t n r a → p ≤ length b
-        → ((x : ℕ) → d ≡ faults x → v′ ≡ v) → Did k s v b p (effectOf (m .expression) k s v d) r a v′ b
-    unfolding encodeAll
-    moved-by (leaves cells rs) y e d h u = rw (on-goes z cells rs, e) (record {
-      stop = d .stop;
-      at = d .at ∙ sym (offset-at ∙ o);
-      stack = d .stack ∙ sym (stack-is w cells);
-      put = rw add-zero (d .put);
-      variables = sym y;
-      buffer = sym (written-nothing b p);
-      room = omega (arith, d .put);
-      long = d .long;
-    })
-    moved-by (faults x) y e d h u = record {
-      stop = d .stop;
-      at = d .at;
-      stack = d .stack;
-      put = rw add-zero (d .put);
-      variables = u x refl;
-      buffer = sym (written-nothing b p);
-      room = omega (arith, d .put);
-      long = d .long;
-    }
-
-    pub did-moved : {d : Done} → eqb op 0x2d ≡ false → meaning m s v free op (operand (m .expression) k) c ≡ d → Quiet d → Moved k p s d t n r a → p ≤ length b
-        → Did k s v b p (effect m k s v free) r a v b
-    unfolding effect
-    did-moved {d} y g e u h = rw (done-at ∙ g) (moved-by d (same-variables y) e u h (λ x i. refl))
-
-    pub did-set : {cells v′ : List ℕ} → eqb op 0x2d ≡ true → meaning m s v free op (operand (m .expression) k) c ≡ leaves cells []
-        → v′ ≡ set v (operand (m .expression) k) (getD s 0 0) → Moved k p s (leaves cells []) t n r a → p ≤ length b
-        → Did k s v b p (effect m k s v free) r a v′ b
-    unfolding effect
-    did-set {cells} y g i u h =
-        rw (done-at ∙ g) (moved-by (leaves cells []) (set-variables y ∙ sym i) refl u h (λ x j. absurd (let n : _≡_ {A = ℕ} 0 1 = cc in omega arith)))
-
-    logged-by : (d : Done) {b′ : List ℕ} → eqb op 0x2d ≡ false → Logged k p s b d t n r a b′ → Did k s v b p (effectOf (m .expression) k s v d) r a v b′
-    logged-by (leaves cells rs) y d = rw (on-goes z cells rs) (record {
-      stop = d .stop;
-      at = d .at ∙ sym (offset-at ∙ o);
-      stack = d .stack ∙ sym (stack-is w cells);
-      put = d .put;
-      variables = sym (same-variables y);
-      buffer = d .buffer;
-      room = d .room;
-      long = d .long;
-    })
-    logged-by (faults x) y d = record {
+  module _ (z : eqb (kind c) kind-end ≡ false) {b : List ℕ} {p : ℕ} {r : Next} {a b′ : List ℕ} where
+    step-by : (d : Done) {v′ : List ℕ} → variablesAfter (m .expression) k s v ≡ v′ → ((x : ℕ) → d ≡ faults x → v′ ≡ v) → Did (m .expression) k p s b d r a b′
+        → DidStep k s v b p (effectOf (m .expression) k s v d) r a v′ b′
+    step-by (leaves cells rs) y u d = rw (on-goes z cells rs, y) (record {
       stop = d .stop;
       at = d .at;
       stack = d .stack;
@@ -126,40 +60,52 @@ module _ (m : Fed) (k : ℕ) (s v : List ℕ) (free op : ℕ) (c : Class) (q : c
       buffer = d .buffer;
       room = d .room;
       long = d .long;
+    })
+    step-by (faults x) y u d = record {
+      stop = d .stop;
+      at = d .at;
+      stack = d .stack;
+      put = d .put;
+      variables = u x refl;
+      buffer = d .buffer;
+      room = d .room;
+      long = d .long;
     }
 
-    pub did-logged : {d : Done} {b′ : List ℕ} → eqb op 0x2d ≡ false → meaning m s v free op (operand (m .expression) k) c ≡ d → Logged k p s b d t n r a b′
-        → Did k s v b p (effect m k s v free) r a v b′
+    pub did-step : {d : Done} → isSetv c ≡ false → meaning m s v free op (operand (m .expression) k) c ≡ d → Did (m .expression) k p s b d r a b′
+        → DidStep k s v b p (effect m k s v free) r a v b′
     unfolding effect
-    did-logged {d} y g u = rw (done-at ∙ g) (logged-by d y u)
+    did-step {d} y g u = rw (done-at ∙ g) (step-by d (same-variables y) (λ x i. refl) u)
 
-  -- an end completes where the trailer fits
-  ended-by : (x : Bool) → eqb (kind c) kind-end ≡ true → {b : List ℕ} {p : ℕ} {r : Next} {a : List ℕ} → r .stop ≡ cond x 1 21 → r .at ≡ k → r .put ≡ p → held a (r .height) ≡ s → p ≤ length b → length a ≡ 64
-      → Did k s v b p (effectOf (m .expression) k s v (cond x (leaves [] []) (faults 21))) r a v b
+    pub did-set : {cells v′ : List ℕ} → isSetv c ≡ true → meaning m s v free op (operand (m .expression) k) c ≡ leaves cells []
+        → v′ ≡ set v (operand (m .expression) k) (getD s 0 0) → Did (m .expression) k p s b (leaves cells []) r a b′ → DidStep k s v b p (effect m k s v free) r a v′ b′
+    unfolding effect
+    did-set {cells} y g i u =
+        rw (done-at ∙ g) (step-by (leaves cells []) (set-variables y ∙ sym i) (λ x j. absurd (let n : _≡_ {A = ℕ} 0 1 = cc in omega arith)) u)
+
+  -- nothing moves
+  still : (x : Effect) → effectOffset k x ≡ k → effectStack s x ≡ s → effectVariables v x ≡ v → effectRecords x ≡ [] → {b : List ℕ} {p : ℕ} {r : Next} {a : List ℕ}
+      → r .stop ≡ effectNumber x → r .at ≡ k → r .put ≡ p → held a (r .height) ≡ s → p ≤ length b → length a ≡ stack-cells → DidStep k s v b p x r a v b
   unfolding encodeAll
-  ended-by true z {b} {p} e i u h l g = rw (class-at, z) (record {
+  still x o t y n {b} {p} e i u h l g = record {
     stop = e;
-    at = i;
-    stack = h;
-    put = rw add-zero u;
-    variables = refl;
-    buffer = sym (written-nothing b p);
-    room = omega arith;
-    long = g;
-  })
-  ended-by false z {b} {p} e i u h l g = record {
-    stop = e;
-    at = i;
-    stack = h;
-    put = rw add-zero u;
-    variables = refl;
-    buffer = sym (written-nothing b p);
+    at = i ∙ sym o;
+    stack = h ∙ sym t;
+    put = rw (n, add-zero) u;
+    variables = sym y;
+    buffer = rw n (sym (written-nothing b p));
     room = omega arith;
     long = g;
   }
 
+  -- an end completes where the trailer fits
+  ended-by : (x : Bool) → eqb (kind c) kind-end ≡ true → {b : List ℕ} {p : ℕ} {r : Next} {a : List ℕ} → r .stop ≡ cond x 1 buffer-full → r .at ≡ k → r .put ≡ p
+      → held a (r .height) ≡ s → p ≤ length b → length a ≡ stack-cells → DidStep k s v b p (effectOf (m .expression) k s v (cond x (leaves [] []) (faults buffer-full))) r a v b
+  ended-by true z e i u h l g = rw (class-at, z) (still completes refl refl refl refl e i u h l g)
+  ended-by false z e i u h l g = still (refuses buffer-full) refl refl refl refl e i u h l g
+
   pub did-end : eqb (kind c) kind-end ≡ true → meaning m s v free op (operand (m .expression) k) c ≡ endDone free → {b : List ℕ} {p h : ℕ} {r : Next} {a : List ℕ}
-      → Ends k h p free r → held a h ≡ s → p ≤ length b → length a ≡ 64 → Did k s v b p (effect m k s v free) r a v b
+      → DidEnd k h p free r → held a h ≡ s → p ≤ length b → length a ≡ stack-cells → DidStep k s v b p (effect m k s v free) r a v b
   unfolding effect endDone
   did-end z g {a = a} e h l w = rw (done-at ∙ g) (ended-by (leb trailerSize free) z (e .stop) (e .at) (e .put) (ap (held a) (e .height) ∙ h) l w)
 

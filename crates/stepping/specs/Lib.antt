@@ -1,2 +1,2 @@
--- What a step of the code gives, in terms of document 01's machine.
-pub mod Effect
+-- What a step does is the machine's (crate `machine`); here is only what joins the code's step to it.
+pub mod joining

@@ -1,27 +1,50 @@
 // One step of the machine: the instruction at an offset, by one arm for each opcode. The arm names the opcode, so that
-// its row is known when this is compiled. No expression that is accepted has the opcodes of the last three arms.
+// its row is known when this is compiled.
+mod key;
+
 ghost use mathlib.Core.Path.{_≡_};
 ghost use Prim.Native.Nat.{_+_, _-_, _≤_, _<_};
 ghost use lib.ListN.{length, getD};
-ghost use Rattle.isa.specs.Held.{held};
-ghost use Rattle.memory.specs.Spans.{spansRefusal};
-ghost use Rattle.machine.specs.Fed.{fed};
-ghost use Rattle.operations.specs.Here.{Place};
-ghost use Rattle.stepping.specs.Effect.{effect, Did, Ends};
+ghost use Rattle.isa.specs.joining.Held.{held};
+ghost use Rattle.memory.specs.Spans.{target, spansRefusal};
+ghost use Rattle.machine.specs.Given.{fixed};
+ghost use Rattle.operations.specs.joining.Here.{StepReady};
+ghost use Rattle.stepping.specs.joining.Effect.{effect, DidStep, DidEnd};
 use isa::Stack;
+use isa::opcode;
 use operations::Next;
+use operations::do_binary;
+use operations::do_constant;
+use operations::do_dup;
+use operations::do_ext;
+use operations::do_getv;
+use operations::do_goto;
+use operations::do_if_goto;
+use operations::do_pick;
+use operations::do_pop;
+use operations::do_ref;
+use operations::do_reg;
+use operations::do_rot;
+use operations::do_setv;
+use operations::do_swap;
+use operations::do_unary;
+use operations::do_zero_ext;
+use recording::do_trace;
+use recording::do_trace_quick;
+use recording::do_tracenz;
+use recording::do_tracev;
 
 // end: whether there is room for the trailer.
 fn do_end(buffer: &[u8], at: usize, height: usize, put: usize) -> Next
     requires { ⌜ put ≤ length (now buffer) ⌝ }
-    ensures { λ r. ⌜ Ends at height put (length (now (buffer .entry)) - put) r ⌝ }
+    ensures { λ r. ⌜ DidEnd at height put (length (now (buffer .entry)) - put) r ⌝ }
 {
     if buffer.len() - put < frames::trailer::TRAILER_SIZE {
         return Next {
             at,
             height,
             put,
-            stop: 21,
+            stop: refusals::BUFFER_FULL,
         };
     }
     Next {
@@ -51,34 +74,34 @@ pub fn step<'a>(
     work_first: u64,
     work: &'a [u8],
     cells: &mut [u64; Stack::DEPTH],
-    variables: &mut [u64; 64],
+    variables: &mut [u64; sizes::VARIABLE_COUNT],
     buffer: &mut [u8],
     at: usize,
     height: usize,
     put: usize,
 ) -> Next
-    requires { ⌜ Place (now rows) (now code) (now cells) at height ⌝ ∗ ⌜ put ≤ length (now buffer) ⌝ ∗ ⌜ spansRefusal «image_first» (now image) «work_first» (now work) ≡ 0 ⌝ }
-    ensures { λ r. ⌜ Did at (held (now (cells .entry)) height) (now (variables .entry)) (now (buffer .entry)) put (effect (fed (now (code .entry)) (now (registers .entry)) «image_first» (now (image .entry)) «work_first» (now (work .entry))) at (held (now (cells .entry)) height) (now (variables .entry)) (length (now (buffer .entry)) - put)) r (now (cells .exit)) (now (variables .exit)) (now (buffer .exit)) ⌝ }
+    requires { ⌜ StepReady (now rows) (now code) (now cells) at height ⌝ ∗ ⌜ put ≤ length (now buffer) ⌝ ∗ ⌜ spansRefusal (target «image_first» (now image) «work_first» (now work)) ≡ 0 ⌝ }
+    ensures { λ r. ⌜ DidStep at (held (now (cells .entry)) height) (now (variables .entry)) (now (buffer .entry)) put (effect (fixed (now (code .entry)) (now (registers .entry)) (target «image_first» (now (image .entry)) «work_first» (now (work .entry)))) at (held (now (cells .entry)) height) (now (variables .entry)) (length (now (buffer .entry)) - put)) r (now (cells .exit)) (now (variables .exit)) (now (buffer .exit)) ⌝ }
 {
     let key = key_at(code, at);
     match key {
-        0xc2 => operations::do_binary(rows, code, cells, 0x02, at, height, put),
-        0xc3 => operations::do_binary(rows, code, cells, 0x03, at, height, put),
-        0xc4 => operations::do_binary(rows, code, cells, 0x04, at, height, put),
-        0xc5 => operations::do_binary(rows, code, cells, 0x05, at, height, put),
-        0xc6 => operations::do_binary(rows, code, cells, 0x06, at, height, put),
-        0xc7 => operations::do_binary(rows, code, cells, 0x07, at, height, put),
-        0xc8 => operations::do_binary(rows, code, cells, 0x08, at, height, put),
-        0xc9 => operations::do_binary(rows, code, cells, 0x09, at, height, put),
-        0xca => operations::do_binary(rows, code, cells, 0x0a, at, height, put),
-        0xcb => operations::do_binary(rows, code, cells, 0x0b, at, height, put),
-        0xcf => operations::do_binary(rows, code, cells, 0x0f, at, height, put),
-        0xd0 => operations::do_binary(rows, code, cells, 0x10, at, height, put),
-        0xd1 => operations::do_binary(rows, code, cells, 0x11, at, height, put),
-        0xd3 => operations::do_binary(rows, code, cells, 0x13, at, height, put),
-        0xd4 => operations::do_binary(rows, code, cells, 0x14, at, height, put),
-        0xd5 => operations::do_binary(rows, code, cells, 0x15, at, height, put),
-        0xcc => recording::do_trace(
+        key::ADD => do_binary(rows, code, cells, opcode::ADD, at, height, put),
+        key::SUB => do_binary(rows, code, cells, opcode::SUB, at, height, put),
+        key::MUL => do_binary(rows, code, cells, opcode::MUL, at, height, put),
+        key::DIV_SIGNED => do_binary(rows, code, cells, opcode::DIV_SIGNED, at, height, put),
+        key::DIV_UNSIGNED => do_binary(rows, code, cells, opcode::DIV_UNSIGNED, at, height, put),
+        key::REM_SIGNED => do_binary(rows, code, cells, opcode::REM_SIGNED, at, height, put),
+        key::REM_UNSIGNED => do_binary(rows, code, cells, opcode::REM_UNSIGNED, at, height, put),
+        key::LSH => do_binary(rows, code, cells, opcode::LSH, at, height, put),
+        key::RSH_SIGNED => do_binary(rows, code, cells, opcode::RSH_SIGNED, at, height, put),
+        key::RSH_UNSIGNED => do_binary(rows, code, cells, opcode::RSH_UNSIGNED, at, height, put),
+        key::BIT_AND => do_binary(rows, code, cells, opcode::BIT_AND, at, height, put),
+        key::BIT_OR => do_binary(rows, code, cells, opcode::BIT_OR, at, height, put),
+        key::BIT_XOR => do_binary(rows, code, cells, opcode::BIT_XOR, at, height, put),
+        key::EQUAL => do_binary(rows, code, cells, opcode::EQUAL, at, height, put),
+        key::LESS_SIGNED => do_binary(rows, code, cells, opcode::LESS_SIGNED, at, height, put),
+        key::LESS_UNSIGNED => do_binary(rows, code, cells, opcode::LESS_UNSIGNED, at, height, put),
+        key::TRACE => do_trace(
             rows,
             code,
             cells,
@@ -91,7 +114,7 @@ pub fn step<'a>(
             height,
             put,
         ),
-        0xef => recording::do_tracenz(
+        key::TRACENZ => do_tracenz(
             rows,
             code,
             cells,
@@ -104,9 +127,9 @@ pub fn step<'a>(
             height,
             put,
         ),
-        0xce => operations::do_unary(rows, code, cells, 0x0e, at, height, put),
-        0xd2 => operations::do_unary(rows, code, cells, 0x12, at, height, put),
-        0xd7 => operations::do_ref(
+        key::LOG_NOT => do_unary(rows, code, cells, opcode::LOG_NOT, at, height, put),
+        key::BIT_NOT => do_unary(rows, code, cells, opcode::BIT_NOT, at, height, put),
+        key::REF8 => do_ref(
             rows,
             code,
             cells,
@@ -114,13 +137,13 @@ pub fn step<'a>(
             image,
             work_first,
             work,
-            0x17,
+            opcode::REF8,
             1,
             at,
             height,
             put,
         ),
-        0xd8 => operations::do_ref(
+        key::REF16 => do_ref(
             rows,
             code,
             cells,
@@ -128,13 +151,13 @@ pub fn step<'a>(
             image,
             work_first,
             work,
-            0x18,
+            opcode::REF16,
             2,
             at,
             height,
             put,
         ),
-        0xd9 => operations::do_ref(
+        key::REF32 => do_ref(
             rows,
             code,
             cells,
@@ -142,13 +165,13 @@ pub fn step<'a>(
             image,
             work_first,
             work,
-            0x19,
+            opcode::REF32,
             4,
             at,
             height,
             put,
         ),
-        0xda => operations::do_ref(
+        key::REF64 => do_ref(
             rows,
             code,
             cells,
@@ -156,13 +179,13 @@ pub fn step<'a>(
             image,
             work_first,
             work,
-            0x1a,
+            opcode::REF64,
             8,
             at,
             height,
             put,
         ),
-        0xcd => recording::do_trace_quick(
+        key::TRACE_QUICK => do_trace_quick(
             rows,
             code,
             cells,
@@ -171,13 +194,13 @@ pub fn step<'a>(
             work_first,
             work,
             buffer,
-            0x0d,
+            opcode::TRACE_QUICK,
             1,
             at,
             height,
             put,
         ),
-        0xf0 => recording::do_trace_quick(
+        key::TRACE16 => do_trace_quick(
             rows,
             code,
             cells,
@@ -186,47 +209,48 @@ pub fn step<'a>(
             work_first,
             work,
             buffer,
-            0x30,
+            opcode::TRACE16,
             2,
             at,
             height,
             put,
         ),
-        0xd6 => operations::do_ext(rows, code, cells, at, height, put),
-        0xea => operations::do_zero_ext(rows, code, cells, at, height, put),
-        0xed => operations::do_setv(rows, code, cells, variables, at, height, put),
-        0xe0 => operations::do_if_goto(rows, code, cells, at, height, put),
-        0xe1 => operations::do_goto(rows, code, cells, at, height, put),
-        0xe2 => operations::do_constant(rows, code, cells, 0x22, 1, at, height, put),
-        0xe3 => operations::do_constant(rows, code, cells, 0x23, 2, at, height, put),
-        0xe4 => operations::do_constant(rows, code, cells, 0x24, 4, at, height, put),
-        0xe5 => operations::do_constant(rows, code, cells, 0x25, 8, at, height, put),
-        0xe6 => operations::do_reg(rows, code, cells, registers, at, height, put),
-        0xec => operations::do_getv(rows, code, cells, variables, at, height, put),
-        0xee => recording::do_tracev(rows, code, cells, variables, buffer, at, height, put),
-        0xe7 => do_end(buffer, at, height, put),
-        0xe8 => operations::do_dup(rows, code, cells, at, height, put),
-        0xe9 => operations::do_pop(rows, code, cells, at, height, put),
-        0xeb => operations::do_swap(rows, code, cells, at, height, put),
-        0xf2 => operations::do_pick(rows, code, cells, at, height, put),
-        0xf3 => operations::do_rot(rows, code, cells, at, height, put),
+        key::EXT => do_ext(rows, code, cells, at, height, put),
+        key::ZERO_EXT => do_zero_ext(rows, code, cells, at, height, put),
+        key::SETV => do_setv(rows, code, cells, variables, at, height, put),
+        key::IF_GOTO => do_if_goto(rows, code, cells, at, height, put),
+        key::GOTO => do_goto(rows, code, cells, at, height, put),
+        key::CONST8 => do_constant(rows, code, cells, opcode::CONST8, 1, at, height, put),
+        key::CONST16 => do_constant(rows, code, cells, opcode::CONST16, 2, at, height, put),
+        key::CONST32 => do_constant(rows, code, cells, opcode::CONST32, 4, at, height, put),
+        key::CONST64 => do_constant(rows, code, cells, opcode::CONST64, 8, at, height, put),
+        key::REG => do_reg(rows, code, cells, registers, at, height, put),
+        key::GETV => do_getv(rows, code, cells, variables, at, height, put),
+        key::TRACEV => do_tracev(rows, code, cells, variables, buffer, at, height, put),
+        key::END => do_end(buffer, at, height, put),
+        key::DUP => do_dup(rows, code, cells, at, height, put),
+        key::POP => do_pop(rows, code, cells, at, height, put),
+        key::SWAP => do_swap(rows, code, cells, at, height, put),
+        key::PICK => do_pick(rows, code, cells, at, height, put),
+        key::ROT => do_rot(rows, code, cells, at, height, put),
+        // No accepted expression has the opcodes of the arms from here on: what they answer does not matter.
         0xc0 | 0xdb | 0xdd | 0xdf | 0xf4 | 0xf6 | 0xf8 | 0xfa | 0xfc | 0xfe => Next {
             at,
             height,
             put,
-            stop: 2,
+            stop: refusals::OPCODE_UNKNOWN,
         },
         0xc1 | 0xdc | 0xde | 0xf1 | 0xf5 | 0xf7 | 0xf9 | 0xfb | 0xfd | 0xff => Next {
             at,
             height,
             put,
-            stop: 3,
+            stop: refusals::OPCODE_UNSUPPORTED,
         },
         _ => Next {
             at,
             height,
             put,
-            stop: 3,
+            stop: refusals::OPCODE_UNSUPPORTED,
         },
     }
 }

@@ -2,18 +2,18 @@
 use Prim.Native.Nat.{ℕ, _+_, _-_, _%_, _^_, _≤_, _<_}
 use native.Mathlib.Nat.{mod-lt, div-add-mod', pow-le-pow-right}
 use native.Mathlib.Omega.{arith}
-use mathlib.Core.List.{List, _++_}
+use mathlib.Core.List.{List, _++_, append-assoc}
 use mathlib.Core.Path.{_≡_, refl, sym, ap, _∙_}
 use lib.Dec.{lit<}
 use lib.ListN.{length, take, drop, length-append}
 use lib.Seq.{take-all}
 use Rattle.io.specs.Digits.{digits, Fewest}
-use Rattle.report.specs.Text.{Text, bytesOf}
-use Rattle.report.proofs.Promises.{append-assoc}
+use Rattle.text_buffer.specs.Text.{Text, bytesOf}
 use Rattle.encoding.specs.LittleEndian.{littleBytes}
 use Rattle.encoding.specs.Written.{writtenAt}
-use Rattle.encoding.proofs.Promises.{cases, length-little, written-read}
-use Rattle.listing.specs.Numbers.{decimal}
+use Rattle.logic.proofs.Promises.{cases}
+use Rattle.encoding.proofs.Promises.{length-little, written-read}
+use Rattle.text_buffer.specs.Decimal.{decimal}
 use Rattle.frames.specs.Record.{memory, variable, encode}
 use Rattle.phrases.specs.Numbers.{hexText}
 use Rattle.phrases.proofs.Promises.{digits-length}

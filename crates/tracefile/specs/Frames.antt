@@ -1,4 +1,5 @@
--- The frames of GDB's trace file (the GDB manual, "Trace File Format"): tracepoint number, length of the records, the records.
+-- The frames of GDB's trace file (the GDB manual, "Trace File Format"): tracepoint number, length of the records, the
+-- records.
 use Prim.Native.Nat.{ℕ, zero, suc, _+_}
 use mathlib.Core.List.{List, [], _∷_, _++_}
 use lib.ListN.{length, take, drop}
@@ -17,9 +18,9 @@ exportedAll (r ∷ rs) = exported r ∷ exportedAll rs
 
 -- the bytes of a record, by what the reader answers
 unfoldable pub recordBytes : List ℕ → Read → List ℕ
-recordBytes buffer (memoryRead tracepoint address long place) = encode (exported (memory address (take long (drop place buffer))))
-recordBytes buffer (variableRead tracepoint number value) = encode (exported (variable number value))
-recordBytes buffer (refusedRead r k) = []
+recordBytes buffer (memoryRead tag address long place) = encode (exported (memory address (take long (drop place buffer))))
+recordBytes buffer (variableRead tag number value) = encode (exported (variable number value))
+recordBytes buffer (refusedRead r) = []
 
 -- n records of frame `number`, from record i on
 abbrev pub recordsFrom : List ℕ → ℕ → ℕ → ℕ → ℕ → List ℕ
@@ -28,16 +29,17 @@ recordsFrom buffer used number i (suc n) = recordBytes buffer (reading buffer us
 
 -- tracepoint number (2 bytes), length of the records (4)
 unfoldable pub openingBytes : Counted → List ℕ
-openingBytes (counted tracepoint start long n) = littleBytes 2 tracepoint ++ littleBytes 4 long
-openingBytes (refusedCount r k) = []
+openingBytes (counted tag start long n) = littleBytes 2 (tag .tracepoint) ++ littleBytes 4 long
+openingBytes (refusedCount r) = []
 
-abbrev pub recordsOf : Counted → ℕ
-recordsOf (counted tracepoint start long n) = n
-recordsOf (refusedCount r k) = 0
+-- how many records are written: none of a refused frame
+abbrev pub recordCount : Counted → ℕ
+recordCount (counted tag start long n) = n
+recordCount (refusedCount r) = 0
 
 abbrev pub frameBytes : List ℕ → ℕ → ℕ → List ℕ
 frameBytes buffer used number =
-    openingBytes (counting buffer used number) ++ recordsFrom buffer used number 0 (recordsOf (counting buffer used number))
+    openingBytes (counting buffer used number) ++ recordsFrom buffer used number 0 (recordCount (counting buffer used number))
 
 -- the n newest frames, the oldest of them first; then two zero bytes end the file
 unfoldable pub framesBytes : List ℕ → ℕ → ℕ → List ℕ

@@ -1,9 +1,9 @@
 -- The first part of GDB's trace file: lines of text, up to an empty one (the GDB manual, "Trace File Format").
 use Prim.Native.Nat.{ℕ, _+_}
 use mathlib.Core.List.{List, [], _∷_, _++_}
-use Rattle.report.specs.Hex.{hexOf}
-use Rattle.report.specs.Text.{bytesOf}
-use Rattle.listing.specs.Numbers.{decimal}
+use Rattle.hexadecimal.specs.Hex.{hexOf}
+use Rattle.text_buffer.specs.Text.{bytesOf}
+use Rattle.text_buffer.specs.Decimal.{decimal}
 use Rattle.phrases.specs.Numbers.{hexText}
 use Rattle.reader.specs.Located.{Located, frame, refused}
 
@@ -15,7 +15,8 @@ startText frames =
 unfoldable pub nameText : ℕ → List ℕ
 nameText number = bytesOf "v" ++ decimal number
 
--- a variable: its number in the file is one higher, since GDB cannot reach a variable 0; its name is v and its own number
+-- a variable: its number in the file is one higher, since GDB cannot reach a variable 0; its name is v and its own
+-- number
 unfoldable pub variableText : ℕ → List ℕ
 variableText number = bytesOf "tsv " ++ hexText (number + 1) ++ bytesOf ":0:0:" ++ hexOf (nameText number) ++ bytesOf "\n"
 
@@ -25,8 +26,8 @@ pointText tracepoint = bytesOf "tp T" ++ hexText tracepoint ++ bytesOf ":" ++ he
 
 -- the tracepoint of a frame
 unfoldable pub tracepointText : Located → List ℕ
-tracepointText (frame tracepoint start long) = pointText tracepoint
-tracepointText (refused r k) = []
+tracepointText (frame tag start long) = pointText (tag .tracepoint)
+tracepointText (refused r) = []
 
 -- the architecture, for addresses of 64 bits, and the empty line
 unfoldable pub targetText : List ℕ

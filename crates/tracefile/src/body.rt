@@ -1,14 +1,14 @@
 // The frames, in bytes.
 ghost use Prim.Native.Nat.{_≤_};
 ghost use Rattle.io.specs.Counts.{Counts};
-ghost use Rattle.report.specs.Text.{Appends};
+ghost use Rattle.text_buffer.specs.Text.{Appends};
 ghost use Rattle.encoding.specs.LittleEndian.{littleBytes};
 ghost use Rattle.frames.specs.Record.{memory, variable, encode};
 ghost use Rattle.reader.specs.Read.{reading, counting};
 ghost use Rattle.tracefile.specs.Frames.{recordBytes, openingBytes};
-use reader::Count;
-use reader::Reading;
-use report::text::append;
+use reader::CountAnswer;
+use reader::RecordAnswer;
+use text_buffer::append;
 
 fn append_little(out: &mut [u8], at: usize, value: u64, count: usize) -> usize
     requires { ⌜ count ≤ 8 ⌝ }
@@ -52,12 +52,12 @@ pub fn append_record(
     ensures text { λ r. ⌜ Appends (now (out .entry)) at (recordBytes (now (buffer .entry)) (reading (now (buffer .entry)) used number index)) (now (out .exit)) r ⌝ }
 {
     match reader::read(buffer, used, number, index) {
-        Reading::NoReading(refusal, offset) => append(out, at, b""),
-        Reading::Variable(tracepoint, variable, value) => {
+        RecordAnswer::Refused(refusal) => append(out, at, b""),
+        RecordAnswer::Variable(tag, variable, value) => {
             let next = std::num::wrapping_add_u64(variable, 1);
             append_variable(out, at, next, value)
         }
-        Reading::Memory(tracepoint, address, length, place) => {
+        RecordAnswer::Memory(tag, address, length, place) => {
             let end = place + length;
             append_memory(out, at, address, &buffer[place..end])
         }
@@ -70,10 +70,10 @@ pub fn append_opening(out: &mut [u8], at: usize, buffer: &[u8], used: usize, num
     ensures text { λ r. ⌜ Appends (now (out .entry)) at (openingBytes (counting (now (buffer .entry)) used number)) (now (out .exit)) r ⌝ }
 {
     match reader::count_records(buffer, used, number) {
-        Count::Records(tracepoint, start, length, records) => {
-            let a = append_little(out, at, tracepoint as u64, 2);
+        CountAnswer::Records(tag, start, length, records) => {
+            let a = append_little(out, at, tag.tracepoint as u64, 2);
             append_little(out, a, length as u64, 4)
         }
-        Count::NoCount(refusal, offset) => append(out, at, b""),
+        CountAnswer::Refused(refusal) => append(out, at, b""),
     }
 }

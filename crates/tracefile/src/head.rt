@@ -1,14 +1,14 @@
 // The lines of text at the start of the file.
 ghost use Rattle.io.specs.Counts.{Counts};
-ghost use Rattle.report.specs.Hex.{hexOf};
-ghost use Rattle.report.specs.Text.{Appends};
+ghost use Rattle.hexadecimal.specs.Hex.{hexOf};
+ghost use Rattle.text_buffer.specs.Text.{Appends};
 ghost use Rattle.reader.specs.Located.{located};
 ghost use Rattle.tracefile.specs.Head.{startText, nameText, variableText, pointText, tracepointText, targetText};
+use hexadecimal::encode;
 use phrases::numbers::append_address;
-use reader::Place;
-use report::hex::encode;
-use report::text::append;
-use report::text::append_number;
+use reader::FrameAnswer;
+use text_buffer::append;
+use text_buffer::append_number;
 
 pub fn append_start(out: &mut [u8], at: usize, frames: u64) -> usize
     ensures count { λ r. ⌜ Counts r (now (out .exit)) ⌝ }
@@ -67,8 +67,8 @@ pub fn append_tracepoint(
     ensures text { λ r. ⌜ Appends (now (out .entry)) at (tracepointText (located (now (buffer .entry)) used number)) (now (out .exit)) r ⌝ }
 {
     match reader::locate(buffer, used, number) {
-        Place::Frame(tracepoint, start, length) => append_point(out, at, tracepoint),
-        Place::NoFrame(refusal, offset) => append(out, at, b""),
+        FrameAnswer::Frame(tag, start, length) => append_point(out, at, tag.tracepoint),
+        FrameAnswer::Refused(refusal) => append(out, at, b""),
     }
 }
 

@@ -11,14 +11,17 @@ use lib.ListN.{getD, length, set, replicate, length-set, length-replicate, getD-
 use lib.Seq.{getD-set-same, getD-set-other, set-out}
 use lib.Dec.{eqb, leb}
 use borrow.Author.Tests.{eq-eqb, ne-eqb, eqb-false, ltb-false, le-leb, leb-true, leb-false, not-true}
+use Rattle.refusals.specs.declared.Refusal.{Refusal}
+use Rattle.refusals.specs.Refusal.{refusal}
 use Rattle.isa.specs.Classes.{kind-goto, kind-if-goto, kind-end}
 use Rattle.isa.specs.Decode.{kindAt, next, operand, needed, heightAfter, jumps, continues}
 use Rattle.isa.specs.Starts.{startsFrom, isStart}
 use Rattle.isa.specs.Walk.{After, target, onward, Walk, stop, step}
-use Rattle.encoding.proofs.Promises.{cases, no-true, none-holds}
+use Rattle.logic.proofs.Promises.{cases, no-true}
+use Rattle.refusals.proofs.Promises.{none-holds}
 use Rattle.isa.proofs.Promises.{start-in, by-starts, from-next, from-end, start-next, start-zero}
 use Rattle.verdict.specs.Pass2.{Aims}
-use Rattle.verdict.specs.Pass3.{unreached, differing, joined, arrive, raise, atTarget, atNext, passOn, runsOff, tests3, fault3, longer, Outcome, done, stopped, heightsAlong, heights0, distances0, pass3}
+use Rattle.verdict.specs.Pass3.{unreached, differing, joined, arrive, raise, atTarget, atNext, passOn, runsOff, tests3, fault3, longer, Pass3End, done, stopped, heightsAlong, heights0, distances0, pass3}
 use Rattle.verdict.proofs.Decoded.{aims-target}
 
 -- ---- the equations of pass 3
@@ -46,7 +49,7 @@ module _ (f : ℕ → ℕ) (e : List ℕ) where
       along-pass p = rw (ne-eqb (getD hs k 0) unreached r, heightsAlong) (rw (eq-eqb (fault3 e k (getD hs k 0)) 0 p))
 
       -- a reached start with a fault stops the pass
-      pub along-stop : fault3 e k (getD hs k 0) ≢ 0 → heightsAlong f e (k ∷ ks) hs ds g l ≡ stopped (fault3 e k (getD hs k 0)) k
+      pub along-stop : fault3 e k (getD hs k 0) ≢ 0 → heightsAlong f e (k ∷ ks) hs ds g l ≡ stopped (refusal (fault3 e k (getD hs k 0)) k)
       unfolding heightsAlong
       along-stop p = rw (ne-eqb (getD hs k 0) unreached r, heightsAlong) (rw (ne-eqb (fault3 e k (getD hs k 0)) 0 p))
 
@@ -252,28 +255,29 @@ pub record Finished (e : List ℕ) (P : ℕ → List ℕ → List ℕ → ℕ �
   pub past : length e ≤ end
   pub holds : P end hs ds g l
 
--- the pass has stopped at the start k with the number r
-pub record Halted (e : List ℕ) (P : ℕ → List ℕ → List ℕ → ℕ → ℕ → Type 0) (r k : ℕ) : Type 0 where
+-- the pass has stopped at a start with the refusal x
+pub record Halted (e : List ℕ) (P : ℕ → List ℕ → List ℕ → ℕ → ℕ → Type 0) (x : Refusal) : Type 0 where
   pub hs : List ℕ
   pub ds : List ℕ
   pub g : ℕ
   pub l : ℕ
-  pub holds : P k hs ds g l
-  pub start : isStart e k ≡ true
-  pub reached : getD hs k 0 ≢ unreached
-  pub faulty : fault3 e k (getD hs k 0) ≢ 0
-  pub number : r ≡ fault3 e k (getD hs k 0)
+  pub holds : P (x .offset) hs ds g l
+  pub start : isStart e (x .offset) ≡ true
+  pub reached : getD hs (x .offset) 0 ≢ unreached
+  pub faulty : fault3 e (x .offset) (getD hs (x .offset) 0) ≢ 0
+  pub number-is : x .number ≡ fault3 e (x .offset) (getD hs (x .offset) 0)
+  pub plain : x ≡ refusal (x .number) (x .offset)
 
 -- how a pass ends that keeps P
-abbrev pub Ended : List ℕ → (ℕ → List ℕ → List ℕ → ℕ → ℕ → Type 0) → Outcome → Type 0
-Ended e P (done hs ds g l) = Finished e P hs ds g l
-Ended e P (stopped r k) = Halted e P r k
+abbrev pub EndsKeeping : List ℕ → (ℕ → List ℕ → List ℕ → ℕ → ℕ → Type 0) → Pass3End → Type 0
+EndsKeeping e P (done hs ds g l) = Finished e P hs ds g l
+EndsKeeping e P (stopped x) = Halted e P x
 
 module _ {f : ℕ → ℕ} {e : List ℕ} {P : ℕ → List ℕ → List ℕ → ℕ → ℕ → Type 0} (keeps : Preserved f e P) where
-  along-ends : (i : ℕ) (hs ds : List ℕ) (g l : ℕ) → P i hs ds g l → (i < length e → isStart e i ≡ true) → Ended e P (heightsAlong f e (startsFrom e i) hs ds g l)
+  along-ends : (i : ℕ) (hs ds : List ℕ) (g l : ℕ) → P i hs ds g l → (i < length e → isStart e i ≡ true) → EndsKeeping e P (heightsAlong f e (startsFrom e i) hs ds g l)
   along-ends =
       by-starts e
-      (λ (i : ℕ). (hs ds : List ℕ) (g l : ℕ) → P i hs ds g l → (i < length e → isStart e i ≡ true) → Ended e P (heightsAlong f e (startsFrom e i) hs ds g l))
+      (λ (i : ℕ). (hs ds : List ℕ) (g l : ℕ) → P i hs ds g l → (i < length e → isStart e i ≡ true) → EndsKeeping e P (heightsAlong f e (startsFrom e i) hs ds g l))
       (λ i h hs ds g l p s. rw (from-end e i h, along-nil f e hs ds g l) (record { end = i; past = h; holds = p }))
       (λ i h rec hs ds g l p s.
       rw (from-next e i h)
@@ -284,11 +288,11 @@ module _ {f : ℕ → ℕ} {e : List ℕ} {P : ℕ → List ℕ → List ℕ →
           | yes r ↦ rw (along-pass f e i (startsFrom e (next e i)) hs ds g l q r)
               (rec _ _ _ _ (keeps .pass p (s h) q r) (start-next e i (s h)))
           | no r ↦ rw (along-stop f e i (startsFrom e (next e i)) hs ds g l q r)
-              (record { hs = hs; ds = ds; g = g; l = l; holds = p; start = s h; reached = q; faulty = r; number = refl })
+              (record { hs = hs; ds = ds; g = g; l = l; holds = p; start = s h; reached = q; faulty = r; number-is = refl; plain = refl })
         ]
       ]))
 
   -- a property that holds at first, and that each turn keeps, holds where the pass ends
-  pub pass3-ends : P 0 heights0 distances0 0 0 → Ended e P (pass3 f e)
+  pub pass3-ends : P 0 heights0 distances0 0 0 → EndsKeeping e P (pass3 f e)
   unfolding pass3
   pass3-ends p = along-ends 0 heights0 distances0 0 0 p (start-zero e)

@@ -11,18 +11,19 @@ use lib.ListN.{getD, length, set, length-set}
 use lib.Seq.{getD-set-same, getD-set-other}
 use lib.Dec.{leb}
 use borrow.Author.Tests.{eq-eqb, ne-eqb, lt-ltb, le-ltb, leb-true}
+use Rattle.refusals.specs.declared.Refusal.{Refusal}
 use Rattle.isa.specs.Classes.{kind-end}
 use Rattle.isa.specs.Decode.{kindAt, next, operand, needed, heightAfter, jumps, continues}
 use Rattle.isa.specs.Starts.{isStart}
 use Rattle.isa.specs.Walk.{After, Walk, stop, weigh}
-use Rattle.encoding.proofs.Promises.{cases}
+use Rattle.logic.proofs.Promises.{cases}
 use Rattle.isa.proofs.Promises.{start-in, start-zero, walk-last, walk-on, weigh-on}
 use Rattle.verdict.specs.Pass1.{Decodes}
 use Rattle.verdict.specs.Pass2.{Aims}
 use Rattle.verdict.specs.Pass3.{unreached, differing, joined, arrive, raise, atTarget, atNext, passOn, runsOff, fault3, longer, done, stopped, heights0, distances0, pass3}
-use Rattle.verdict.specs.Acceptance.{ToEnd, Broken, heights-differ, too-few, too-many, runs-on}
+use Rattle.verdict.specs.Acceptance.{ToEnd, Broken, two-heights, cells-lack, cells-exceed, walk-leaves}
 use Rattle.verdict.proofs.Decoded.{decodes-fits}
-use Rattle.verdict.proofs.Along.{Fine, fine, after-start, after-target, after-next, joined-first, joined-same, joined-differing, longer-end, longer-other, heights0-length, heights0-zero, heights0-other, distances0-length, distances0-at, Preserved, Ended, pass3-ends}
+use Rattle.verdict.proofs.Along.{Fine, fine, after-start, after-target, after-next, joined-first, joined-same, joined-differing, longer-end, longer-other, heights0-length, heights0-zero, heights0-other, distances0-length, distances0-at, Preserved, EndsKeeping, pass3-ends}
 
 -- the greater of two numbers has what both have
 max-either : (P : ℕ → Type 0) (x y : ℕ) → P x → P y → P (max x y)
@@ -128,7 +129,7 @@ module _ (e : List ℕ) (k : ℕ) (decodes : Decodes e) where
       → _≢_ {A = ℕ} (cond (a && b) 11 0) 0 → Broken e k (cond (a && b) 11 0)
   off-broken true true p q w c g n = (
     w .0 ∷ [],
-    runs-on refl refl (w .1) (omega arith) (omega arith) (after-next e k (next e k) p refl)
+    walk-leaves refl refl (w .1) (omega arith) (omega arith) (after-next e k (next e k) p refl)
         (omega (arith, leb-true (length e) (next e k) q, decodes-fits e k decodes (walk-last (w .1)))),
   )
   off-broken true false p q w c g n = absurd (n refl)
@@ -138,17 +139,17 @@ module _ (e : List ℕ) (k : ℕ) (decodes : Decodes e) where
   seen-broken : {f : ℕ → ℕ} {c d : ℕ} → Seen f e k c d → c ≢ unreached → fault3 e k c ≢ 0 → Broken e k (fault3 e k c)
   unfolding fault3 runsOff
   seen-broken (unseen p q) r = absurd (r p)
-  seen-broken {c = c} (twice p v w n x) r = λ z. (v .0 ∷ w .0 ∷ [], heights-differ (rw (eq-eqb c differing p)) refl (v .1) (w .1) n)
+  seen-broken {c = c} (twice p v w n x) r = λ z. (v .0 ∷ w .0 ∷ [], two-heights (rw (eq-eqb c differing p)) refl (v .1) (w .1) n)
   seen-broken {c = c} (once l w x) r =
       rw (ne-eqb c differing (omega arith))
-      (cases c (needed e k) (λ h. rw (lt-ltb c (needed e k) h) (λ z. (w .0 ∷ [], too-few refl refl (w .1) h)))
+      (cases c (needed e k) (λ h. rw (lt-ltb c (needed e k) h) (λ z. (w .0 ∷ [], cells-lack refl refl (w .1) h)))
       (λ h. rw (le-ltb c (needed e k) h)
-      (cases 64 (heightAfter e k c) (λ g. rw (lt-ltb 64 (heightAfter e k c) g) (λ z. (w .0 ∷ [], too-many refl refl (w .1) (omega arith) g)))
+      (cases 64 (heightAfter e k c) (λ g. rw (lt-ltb 64 (heightAfter e k c) g) (λ z. (w .0 ∷ [], cells-exceed refl refl (w .1) (omega arith) g)))
       (λ g. rw (le-ltb 64 (heightAfter e k c) g) (off-broken (continues e k) (leb (length e) (next e k)) refl refl w h g)))))
 
 -- ---- the pass
 -- all that pass 3 holds between two starts is that of walks
-record Found (f : ℕ → ℕ) (e : List ℕ) (hs ds : List ℕ) (g l : ℕ) : Type 0 where
+record AllFound (f : ℕ → ℕ) (e : List ℕ) (hs ds : List ℕ) (g l : ℕ) : Type 0 where
   cells : AllSeen f e hs ds
   high : HeightSeen e g
   heavy : WeightSeen f e l
@@ -163,7 +164,7 @@ longer-seen f e k d l x s =
 
 module _ (f : ℕ → ℕ) (e : List ℕ) (some : 1 ≤ length e) (short : length e ≤ 1024) (aims : Aims e) where
   -- pass 3 begins so
-  found-first : Found f e heights0 distances0 0 0
+  found-first : AllFound f e heights0 distances0 0 0
   unfolding weigh
   found-first = record {
     cells = record {
@@ -182,7 +183,7 @@ module _ (f : ℕ → ℕ) (e : List ℕ) (some : 1 ≤ length e) (short : lengt
   }
 
   -- each start keeps it
-  found-kept : Preserved f e (λ i hs ds g l. Found f e hs ds g l)
+  found-kept : Preserved f e (λ i hs ds g l. AllFound f e hs ds g l)
   found-kept = record {
     skip = λ a s p. a;
     pass = λ {i} {hs} {ds} {g} {l} a s r z.
@@ -197,14 +198,15 @@ module _ (f : ℕ → ℕ) (e : List ℕ) (some : 1 ≤ length e) (short : lengt
   }
 
   -- so it holds where pass 3 ends
-  found : Ended e (λ i hs ds g l. Found f e hs ds g l) (pass3 f e)
+  found : EndsKeeping e (λ i hs ds g l. AllFound f e hs ds g l) (pass3 f e)
   found = pass3-ends found-kept found-first
 
   -- a refusal of pass 3 has its reason
-  pub broken : {r k : ℕ} → Decodes e → pass3 f e ≡ stopped r k → Broken e k r
-  broken {r} {k} d p =
+  pub broken : {x : Refusal} → Decodes e → pass3 f e ≡ stopped x → Broken e (x .offset) (x .number)
+  broken {x} d p =
       let t = rw p at found in
-      rw (t .number) (seen-broken e k d (t .holds .cells .cell k (omega (arith, start-in e k (t .start)))) (t .reached) (t .faulty))
+      let k = x .offset in
+      rw (t .number-is) (seen-broken e k d (t .holds .cells .cell k (omega (arith, start-in e k (t .start)))) (t .reached) (t .faulty))
 
   -- the greatest height is 0 or the height after the last instruction of a walk
   pub greatest-seen : {hs ds : List ℕ} {g l : ℕ} → pass3 f e ≡ done hs ds g l

@@ -18,7 +18,7 @@ use Rattle.verdict.proofs.Along.{after-later, later-start}
 
 -- a walk to an end that has at least the length of the walk w to j, and a greater one where w does not yet end at an
 -- end
-pub record Ending (e : List ℕ) (w : List ℕ) (j u : ℕ) : Type 0 where
+pub record Continued (e : List ℕ) (w : List ℕ) (j u : ℕ) : Type 0 where
   pub list : List ℕ
   pub to-end : ToEnd e list
   pub long : length w ≤ length list
@@ -38,7 +38,7 @@ module _ (e : List ℕ) (fit : WalksFit e (length e)) (aims : Aims e) where
   follows {j = j} x a = later-start aims (walk-last x) a (fit .stays x (start-in e j (walk-last x)) a)
 
   -- with at most n bytes from j on, the walk can be continued to an end
-  ends-within : (n : ℕ) {w : List ℕ} {j u : ℕ} → Walk e 0 0 w j u → length e ≤ j + n → Ending e w j u
+  ends-within : (n : ℕ) {w : List ℕ} {j u : ℕ} → Walk e 0 0 w j u → length e ≤ j + n → Continued e w j u
   ends-within zero {j = j} x h = absurd (omega (arith, start-in e j (walk-last x)))
   ends-within (suc n) {w} {j} {u} x h =
       elim (ℕ-discrete (kindAt e j) kind-end) [
@@ -51,9 +51,9 @@ module _ (e : List ℕ) (fit : WalksFit e (length e)) (aims : Aims e) where
       ]
 
   -- every walk can be continued to an end
-  pub ends : {w : List ℕ} {j u : ℕ} → Walk e 0 0 w j u → Ending e w j u
+  pub ends : {w : List ℕ} {j u : ℕ} → Walk e 0 0 w j u → Continued e w j u
   ends x = ends-within (length e) x (omega arith)
 
   -- there is a walk from offset 0 to an end
-  pub some-end : 1 ≤ length e → Ending e (0 ∷ []) 0 0
+  pub some-end : 1 ≤ length e → Continued e (0 ∷ []) 0 0
   some-end h = ends (stop (start-zero e h))

@@ -8,7 +8,8 @@ use native.Mathlib.Omega.{arith}
 use lib.ListN.{getD, length}
 use lib.Dec.{leb}
 use borrow.Author.Tests.{eq-eqb, ne-eqb, lt-ltb, le-ltb, le-leb, lt-leb}
-use Rattle.encoding.proofs.Promises.{cases}
+use Rattle.sizes.specs.Sizes.{variable-count}
+use Rattle.logic.proofs.Promises.{cases}
 use Rattle.isa.specs.Classes.{kind-unknown, kind-unsupported, kind-ext, kind-variable, kind-goto, kind-end}
 use Rattle.isa.specs.Decode.{kindAt, next, operand, needed, heightAfter, jumps}
 use Rattle.isa.specs.Starts.{isStart}
@@ -54,11 +55,11 @@ module _ (e : List ℕ) (i : ℕ) where
     pub f-ext-some : kindAt e i ≡ kind-ext → operand e i ≢ 0 → 0 ≡ fault1 e i
     f-ext-some k h = rw (k, ne-eqb (operand e i) 0 h) at (f-operand fits (omega arith))
 
-    pub f-variable-high : kindAt e i ≡ kind-variable → 63 < operand e i → 5 ≡ fault1 e i
-    f-variable-high k h = rw (k, lt-ltb 63 (operand e i) h) at (f-operand fits (omega arith))
+    pub f-variable-high : kindAt e i ≡ kind-variable → variable-count ≤ operand e i → 5 ≡ fault1 e i
+    f-variable-high k h = rw (k, le-leb variable-count (operand e i) h) at (f-operand fits (omega arith))
 
-    pub f-variable-low : kindAt e i ≡ kind-variable → operand e i ≤ 63 → 0 ≡ fault1 e i
-    f-variable-low k h = rw (k, le-ltb 63 (operand e i) h) at (f-operand fits (omega arith))
+    pub f-variable-low : kindAt e i ≡ kind-variable → operand e i < variable-count → 0 ≡ fault1 e i
+    f-variable-low k h = rw (k, lt-leb variable-count (operand e i) h) at (f-operand fits (omega arith))
 
 -- ---- pass 2, at a jump
 module _ (e : List ℕ) (k : ℕ) (j : jumps e k ≡ true) where

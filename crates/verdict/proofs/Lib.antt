@@ -1,5 +1,5 @@
--- `Promises` is the page for users of this crate; `Decoded`, `Faults`, `Along` and `Cases` serve those who follow the
--- passes; the others hold the work behind them.
+-- `Promises` is the page for users of a verdict, `Deciding` that for the code that decides one; the others hold the
+-- work behind them.
 pub mod Decoded
 pub mod Faults
 pub mod Along
@@ -9,3 +9,4 @@ pub mod Complete
 pub mod Endings
 pub mod Meaning
 pub mod Promises
+pub mod Deciding

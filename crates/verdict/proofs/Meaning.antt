@@ -5,20 +5,23 @@ use mathlib.Core.Logic.{inl, inr, ⊎-elim}
 use Prim.Native.Nat.{ℕ, _≤_, _<_}
 use native.Mathlib.Omega.{arith}
 use lib.ListN.{length}
+use Rattle.refusals.specs.declared.Refusal.{Refusal}
+use Rattle.refusals.specs.Refusal.{refusal}
 use Rattle.isa.specs.Decode.{heightAfter}
 use Rattle.isa.specs.Starts.{starts}
 use Rattle.isa.specs.Walk.{Walk, stop, weigh, one}
-use Rattle.encoding.proofs.Promises.{cases, tried-most}
+use Rattle.logic.proofs.Promises.{cases}
+use Rattle.refusals.proofs.Promises.{tried-most}
 use Rattle.isa.proofs.Promises.{start-in, start-zero, walk-last, weigh-one}
 use Rattle.verdict.specs.Fault.{Fault, none, fault}
 use Rattle.verdict.specs.Pass1.{tests1, fault1, pass1, Decodes}
 use Rattle.verdict.specs.Pass2.{tests2, fault2, pass2, Aims}
-use Rattle.verdict.specs.Pass3.{Outcome, done, stopped, pass3, heaviest, longestIn}
+use Rattle.verdict.specs.Pass3.{Pass3End, done, stopped, pass3, heaviest, longestIn}
 use Rattle.verdict.specs.Verdict.{accepted, refused, after1, after2, after3, verdict}
-use Rattle.verdict.specs.Acceptance.{Sized, WalksFit, Acceptable, GreatestHeight, ToEnd, MostIs, Accepted, Ready, Shows, heights-differ, too-few, too-many, runs-on, Broken, OneHeight, Justified, of-size, of-pass1, of-pass2, of-pass3, Means}
-use Rattle.verdict.proofs.Decoded.{clear-holds, fault-first, decodes-fits, decodes-known, decodes-ext, decodes-variable}
+use Rattle.verdict.specs.Acceptance.{Sized, WalksFit, Acceptable, GreatestHeight, ToEnd, MostIs, Accepted, Ready, WithinLongest, Shows, two-heights, cells-lack, cells-exceed, walk-leaves, Broken, OneHeight, Justified, of-size, of-pass1, of-pass2, of-pass3, Means}
+use Rattle.verdict.proofs.Decoded.{clear-holds, fault-plain, fault-first, decodes-fits, decodes-known, decodes-ext, decodes-variable}
 use Rattle.verdict.proofs.Cases.{verdict-empty, verdict-long, verdict-sized, verdict-1, verdict-2, verdict-3}
-use Rattle.verdict.proofs.Sound.{walks-fit-done, walks-fit-stopped, one-height-stopped, greatest-most, heaviest-most}
+use Rattle.verdict.proofs.Sound.{walks-fit-done, walks-fit-stopped, stopped-plain, one-height-stopped, greatest-most, heaviest-most}
 use Rattle.verdict.proofs.Complete.{broken, greatest-seen, heaviest-seen}
 use Rattle.verdict.proofs.Endings.{ends, some-end}
 
@@ -74,23 +77,23 @@ module _ (e : List ℕ) where
 
   -- where every walk fits, nothing shows a refusal
   never-shown : {n k r : ℕ} {lists : List (List ℕ)} → WalksFit e n → k < n → Shows e k r lists → ⊥
-  never-shown s i (heights-differ q _ v w n) = n (s .one-height v w i)
-  never-shown s i (too-few q _ w h) = omega (arith, s .cells w i)
-  never-shown s i (too-many q _ w c h) = omega (arith, s .room w i)
-  never-shown s i (runs-on q _ w c h t m) = omega (arith, s .stays w i t)
+  never-shown s i (two-heights q _ v w n) = n (s .one-height v w i)
+  never-shown s i (cells-lack q _ w h) = omega (arith, s .cells w i)
+  never-shown s i (cells-exceed q _ w c h) = omega (arith, s .room w i)
+  never-shown s i (walk-leaves q _ w c h t m) = omega (arith, s .stays w i t)
 
   shown-start : {k r : ℕ} {lists : List (List ℕ)} → Shows e k r lists → k < length e
-  shown-start {k} (heights-differ q _ v w n) = start-in e k (walk-last w)
-  shown-start {k} (too-few q _ w h) = start-in e k (walk-last w)
-  shown-start {k} (too-many q _ w c h) = start-in e k (walk-last w)
-  shown-start {k} (runs-on q _ w c h t m) = start-in e k (walk-last w)
+  shown-start {k} (two-heights q _ v w n) = start-in e k (walk-last w)
+  shown-start {k} (cells-lack q _ w h) = start-in e k (walk-last w)
+  shown-start {k} (cells-exceed q _ w c h) = start-in e k (walk-last w)
+  shown-start {k} (walk-leaves q _ w c h t m) = start-in e k (walk-last w)
 
   never-broken : {k r : ℕ} → Acceptable e → Broken e k r → ⊥
   never-broken s b = never-shown (s .walks) (shown-start (b .1)) (b .1)
 
   -- ---- every case of the verdict
   module _ (z : Sized e) where
-    means3 : Decodes e → Aims e → (o : Outcome) → pass3 one e ≡ o → Means e (after3 e o)
+    means3 : Decodes e → Aims e → (o : Pass3End) → pass3 one e ≡ o → Means e (after3 e o)
     unfolding after3
     means3 d a (done hs ds g l) p = record {
       acceptable = done-acceptable z d a one p;
@@ -98,35 +101,36 @@ module _ (e : List ℕ) where
       height = done-greatest z d a one p;
       longest = most-same weigh-one (done-most z d a one p);
     }
-    means3 d a (stopped r k) p =
-        of-pass3 z d a (broken one e (z .some) (z .short) a d p) (one-height-stopped one e (z .short) a p) (walks-fit-stopped one e (z .short) a p)
+    means3 d a (stopped x) p =
+        of-pass3 (stopped-plain one e (z .short) a p) z d a (broken one e (z .some) (z .short) a d p) (one-height-stopped one e (z .short) a p)
+        (walks-fit-stopped one e (z .short) a p)
 
     means2 : Decodes e → (f : Fault) → pass2 e ≡ f → Means e (after2 e f)
     unfolding after2
     means2 d none p = means3 d (clear-holds (fault2 e) e .0 p) (pass3 one e) refl
-    means2 d (fault r k) p = of-pass2 z d (fault-first (fault2 e) e .0 p)
+    means2 d (fault x) p = let q = fault-plain (fault2 e) e p in of-pass2 q z d (fault-first (fault2 e) e .0 (p ∙ ap fault q))
 
     means1 : (f : Fault) → pass1 e ≡ f → Means e (after1 e f)
     unfolding after1
     means1 none p = means2 (clear-holds (fault1 e) e .0 p) (pass2 e) refl
-    means1 (fault r k) p = of-pass1 z (fault-first (fault1 e) e .0 p)
+    means1 (fault x) p = let q = fault-plain (fault1 e) e p in of-pass1 q z (fault-first (fault1 e) e .0 (p ∙ ap fault q))
 
   -- every verdict is true
   pub verdict-means : Means e (verdict e)
   verdict-means =
       cases 0 (length e)
       (λ some. cases 1024 (length e)
-      (λ long. rw (← verdict-long e long) (of-size refl refl (inr long)))
+      (λ long. rw (← verdict-long e long) (of-size refl (inr long)))
       (λ short. rw (verdict-sized e some short) (means1 (record { some = some; short = short }) (pass1 e) refl)))
-      (λ none. let z : length e ≡ 0 = omega arith in rw (← verdict-empty e z) (of-size refl refl (inl z)))
+      (λ none. let z : length e ≡ 0 = omega arith in rw (← verdict-empty e z) (of-size refl (inl z)))
 
   -- ---- what fits is accepted
-  abbrev Ends : Outcome → Type 0
-  Ends o = (hs : List ℕ) × (ds : List ℕ) × (g : ℕ) × (l : ℕ) × (o ≡ done hs ds g l)
+  abbrev IsDone : Pass3End → Type 0
+  IsDone o = (hs : List ℕ) × (ds : List ℕ) × (g : ℕ) × (l : ℕ) × (o ≡ done hs ds g l)
 
-  ends-done : (f : ℕ → ℕ) → Acceptable e → (o : Outcome) → pass3 f e ≡ o → Ends o
+  ends-done : (f : ℕ → ℕ) → Acceptable e → (o : Pass3End) → pass3 f e ≡ o → IsDone o
   ends-done f s (done hs ds g l) p = (hs, ds, g, l, refl)
-  ends-done f s (stopped r k) p = absurd (never-broken s (broken f e (s .sized .some) (s .sized .short) (s .aims) (s .decodes) p))
+  ends-done f s (stopped x) p = absurd (never-broken s (broken f e (s .sized .some) (s .sized .short) (s .aims) (s .decodes) p))
 
   pub fits-accepted : Acceptable e → (n : ℕ) × (g : ℕ) × (l : ℕ) × (verdict e ≡ accepted n g l)
   unfolding after3
@@ -153,22 +157,22 @@ module _ (e : List ℕ) where
   -- ---- what a refusal says is true of that refusal alone
   -- at one instruction
   one-number : {k r s : ℕ} {lists others : List (List ℕ)} → (8 < r → OneHeight e k) → (8 < s → OneHeight e k) → Shows e k r lists → Shows e k s others → r ≡ s
-  one-number o c (heights-differ p _ v w n) (heights-differ q _ _ _ _) = p ∙ sym q
-  one-number o c (heights-differ p _ v w n) (too-few q _ _ _) = absurd (n (c (omega arith) .same v w))
-  one-number o c (heights-differ p _ v w n) (too-many q _ _ _ _) = absurd (n (c (omega arith) .same v w))
-  one-number o c (heights-differ p _ v w n) (runs-on q _ _ _ _ _ _) = absurd (n (c (omega arith) .same v w))
-  one-number o c (too-few p _ _ _) (heights-differ q _ v w n) = absurd (n (o (omega arith) .same v w))
-  one-number o c (too-few p _ _ _) (too-few q _ _ _) = p ∙ sym q
-  one-number o c (too-few p _ v h) (too-many q _ w i _) = absurd (omega (arith, o (omega arith) .same v w))
-  one-number o c (too-few p _ v h) (runs-on q _ w i _ _ _) = absurd (omega (arith, o (omega arith) .same v w))
-  one-number o c (too-many p _ _ _ _) (heights-differ q _ v w n) = absurd (n (o (omega arith) .same v w))
-  one-number o c (too-many p _ v h _) (too-few q _ w i) = absurd (omega (arith, o (omega arith) .same v w))
-  one-number o c (too-many p _ _ _ _) (too-many q _ _ _ _) = p ∙ sym q
-  one-number {k} o c (too-many p _ v _ h) (runs-on q _ w _ i _ _) = absurd (omega (arith, ap (heightAfter e k) (o (omega arith) .same v w)))
-  one-number o c (runs-on p _ _ _ _ _ _) (heights-differ q _ v w n) = absurd (n (o (omega arith) .same v w))
-  one-number o c (runs-on p _ v h _ _ _) (too-few q _ w i) = absurd (omega (arith, o (omega arith) .same v w))
-  one-number {k} o c (runs-on p _ v _ h _ _) (too-many q _ w _ i) = absurd (omega (arith, ap (heightAfter e k) (o (omega arith) .same v w)))
-  one-number o c (runs-on p _ _ _ _ _ _) (runs-on q _ _ _ _ _ _) = p ∙ sym q
+  one-number o c (two-heights p _ v w n) (two-heights q _ _ _ _) = p ∙ sym q
+  one-number o c (two-heights p _ v w n) (cells-lack q _ _ _) = absurd (n (c (omega arith) .same v w))
+  one-number o c (two-heights p _ v w n) (cells-exceed q _ _ _ _) = absurd (n (c (omega arith) .same v w))
+  one-number o c (two-heights p _ v w n) (walk-leaves q _ _ _ _ _ _) = absurd (n (c (omega arith) .same v w))
+  one-number o c (cells-lack p _ _ _) (two-heights q _ v w n) = absurd (n (o (omega arith) .same v w))
+  one-number o c (cells-lack p _ _ _) (cells-lack q _ _ _) = p ∙ sym q
+  one-number o c (cells-lack p _ v h) (cells-exceed q _ w i _) = absurd (omega (arith, o (omega arith) .same v w))
+  one-number o c (cells-lack p _ v h) (walk-leaves q _ w i _ _ _) = absurd (omega (arith, o (omega arith) .same v w))
+  one-number o c (cells-exceed p _ _ _ _) (two-heights q _ v w n) = absurd (n (o (omega arith) .same v w))
+  one-number o c (cells-exceed p _ v h _) (cells-lack q _ w i) = absurd (omega (arith, o (omega arith) .same v w))
+  one-number o c (cells-exceed p _ _ _ _) (cells-exceed q _ _ _ _) = p ∙ sym q
+  one-number {k} o c (cells-exceed p _ v _ h) (walk-leaves q _ w _ i _ _) = absurd (omega (arith, ap (heightAfter e k) (o (omega arith) .same v w)))
+  one-number o c (walk-leaves p _ _ _ _ _ _) (two-heights q _ v w n) = absurd (n (o (omega arith) .same v w))
+  one-number o c (walk-leaves p _ v h _ _ _) (cells-lack q _ w i) = absurd (omega (arith, o (omega arith) .same v w))
+  one-number {k} o c (walk-leaves p _ v _ h _ _) (cells-exceed q _ w _ i) = absurd (omega (arith, ap (heightAfter e k) (o (omega arith) .same v w)))
+  one-number o c (walk-leaves p _ _ _ _ _ _) (walk-leaves q _ _ _ _ _ _) = p ∙ sym q
 
   -- what shows a refusal of pass 3 at k, where no lower instruction has one
   record Late (r k : ℕ) : Type 0 where
@@ -176,17 +180,18 @@ module _ (e : List ℕ) where
     one-height : 8 < r → OneHeight e k
     before : WalksFit e k
 
-  one-late : {r k s j : ℕ} → Late r k → Late s j → refused r k ≡ refused s j
+  one-late : {r k s j : ℕ} → Late r k → Late s j → refused (refusal r k) ≡ refused (refusal s j)
   one-late {r} {k} {s} {j} x y =
       cases k j (λ h. absurd (never-shown (y .before) h (x .shown .1)))
       (λ g. cases j k (λ h. absurd (never-shown (x .before) h (y .shown .1)))
-      (λ h. let q : j ≡ k = omega arith in let t : r ≡ s = one-number (x .one-height) (rw q at (y .one-height)) (x .shown .1) (rw q at (y .shown .1)) in cc))
+      (λ h. let q : j ≡ k = omega arith in let t : r ≡ s = one-number (x .one-height) (rw q at (y .one-height)) (x .shown .1) (rw q at (y .shown .1)) in rw (q, t) refl))
 
-  late-verdict : {r k : ℕ} → Sized e → Decodes e → Aims e → Late r k → (o : Outcome) → pass3 one e ≡ o → after3 e o ≡ refused r k
+  late-verdict : {r k : ℕ} → Sized e → Decodes e → Aims e → Late r k → (o : Pass3End) → pass3 one e ≡ o → after3 e o ≡ refused (refusal r k)
   unfolding after3
   late-verdict z d a x (done hs ds g l) p = absurd (never-broken (done-acceptable z d a one p) (x .shown))
-  late-verdict z d a x (stopped s j) p =
-      one-late
+  late-verdict z d a x (stopped y) p =
+      ap refused (stopped-plain one e (z .short) a p)
+      ∙ one-late
       (record {
         shown = broken one e (z .some) (z .short) a d p;
         one-height = one-height-stopped one e (z .short) a p;
@@ -194,13 +199,13 @@ module _ (e : List ℕ) where
       })
       x
 
-  pub refused-verdict : {r k : ℕ} → Justified e r k → verdict e ≡ refused r k
-  refused-verdict (of-size p q s) =
-      ⊎-elim (λ (z : length e ≡ 0). rw (p, q) (sym (verdict-empty e z))) (λ (z : 1024 < length e). rw (p, q) (sym (verdict-long e z))) s
-  refused-verdict {r} {k} (of-pass1 z x) = sym (verdict-1 e (z .some) (z .short) r k (fault-first (fault1 e) e .1 x))
-  refused-verdict {r} {k} (of-pass2 z d x) = sym (verdict-2 e (z .some) (z .short) d r k (fault-first (fault2 e) e .1 x))
-  refused-verdict (of-pass3 z d a b o w) =
-      verdict-3 e (z .some) (z .short) d a ∙ late-verdict z d a (record { shown = b; one-height = o; before = w }) (pass3 one e) refl
+  pub refused-verdict : {x : Refusal} → Justified e x → verdict e ≡ refused x
+  refused-verdict (of-size p s) =
+      ⊎-elim (λ (z : length e ≡ 0). rw p (sym (verdict-empty e z))) (λ (z : 1024 < length e). rw p (sym (verdict-long e z))) s
+  refused-verdict (of-pass1 {r} {k} p z y) = rw p (sym (verdict-1 e (z .some) (z .short) (refusal r k) (fault-first (fault1 e) e .1 y)))
+  refused-verdict (of-pass2 {r} {k} p z d y) = rw p (sym (verdict-2 e (z .some) (z .short) d (refusal r k) (fault-first (fault2 e) e .1 y)))
+  refused-verdict (of-pass3 p z d a b o w) =
+      rw p (verdict-3 e (z .some) (z .short) d a ∙ late-verdict z d a (record { shown = b; one-height = o; before = w }) (pass3 one e) refl)
 
   -- ---- the numbers of refusals: those of passes 1 and 2 are at most 7
   fault1-most : (k : ℕ) → fault1 e k ≤ 7
@@ -212,40 +217,52 @@ module _ (e : List ℕ) where
   fault2-most k = tried-most 7 (tests2 e k) tt
 
   shown-number : {k r : ℕ} {lists : List (List ℕ)} → Shows e k r lists → (8 ≤ r) × (r ≤ 11)
-  shown-number (heights-differ q _ _ _ _) = (omega arith, omega arith)
-  shown-number (too-few q _ _ _) = (omega arith, omega arith)
-  shown-number (too-many q _ _ _ _) = (omega arith, omega arith)
-  shown-number (runs-on q _ _ _ _ _ _) = (omega arith, omega arith)
+  shown-number (two-heights q _ _ _ _) = (omega arith, omega arith)
+  shown-number (cells-lack q _ _ _) = (omega arith, omega arith)
+  shown-number (cells-exceed q _ _ _ _) = (omega arith, omega arith)
+  shown-number (walk-leaves q _ _ _ _ _ _) = (omega arith, omega arith)
 
-  pub justified-number : {r k : ℕ} → Justified e r k → (1 ≤ r) × (r ≤ 11)
-  justified-number (of-size p q s) = (omega arith, omega arith)
-  justified-number {k = k} (of-pass1 z x) = (x .faulty, omega (arith, x .number, fault1-most k))
-  justified-number {k = k} (of-pass2 z d x) = (x .faulty, omega (arith, x .number, fault2-most k))
-  justified-number (of-pass3 z d a b o w) = let n = shown-number (b .1) in (omega arith, n .1)
+  pub justified-number : {x : Refusal} → Justified e x → (1 ≤ x .number) × (x .number ≤ 11)
+  justified-number (of-size p s) = rw p (omega arith, omega arith)
+  justified-number (of-pass1 {r} {k} p z y) = rw p (y .faulty, omega (arith, y .number, fault1-most k))
+  justified-number (of-pass2 {r} {k} p z d y) = rw p (y .faulty, omega (arith, y .number, fault2-most k))
+  justified-number (of-pass3 p z d a b o w) = let n = shown-number (b .1) in rw p (omega arith, n .1)
+
+  -- a refusal of an expression comes before any step
+  pub justified-plain : {x : Refusal} → Justified e x → x ≡ refusal (x .number) (x .offset)
+  justified-plain (of-size p s) = rw p refl
+  justified-plain (of-pass1 p z y) = rw p refl
+  justified-plain (of-pass2 p z d y) = rw p refl
+  justified-plain (of-pass3 p z d a b o w) = rw p refl
 
   -- a refusal from 8 up is pass 3's
-  pub late-broken : {r k : ℕ} → 8 ≤ r → Justified e r k → Broken e k r × WalksFit e k × (8 < r → OneHeight e k)
-  late-broken h (of-size p q s) = absurd (omega arith)
-  late-broken {k = k} h (of-pass1 z x) = absurd (omega (arith, x .number, fault1-most k))
-  late-broken {k = k} h (of-pass2 z d x) = absurd (omega (arith, x .number, fault2-most k))
-  late-broken h (of-pass3 z d a b o w) = (b, w, o)
+  pub late-broken : {x : Refusal} → Justified e x → 8 ≤ x .number → Broken e (x .offset) (x .number) × WalksFit e (x .offset) × (8 < x .number → OneHeight e (x .offset))
+  late-broken (of-size p s) = rw p (λ h. absurd (omega arith))
+  late-broken (of-pass1 {r} {k} p z y) = rw p (λ h. absurd (omega (arith, y .number, fault1-most k)))
+  late-broken (of-pass2 {r} {k} p z d y) = rw p (λ h. absurd (omega (arith, y .number, fault2-most k)))
+  late-broken (of-pass3 p z d a b o w) = rw p (λ h. (b, w, o))
 
   -- ---- the last instruction of a walk
-  pub walk-ready : {n g l : ℕ} → Accepted e n g l → {w : List ℕ} {j u : ℕ} → Walk e 0 0 w j u → Ready e l w j u
-  walk-ready {n} {g} {l} s {w} {j} {u} x =
-      let a = s .acceptable in
-      let i : j < length e = start-in e j (walk-last x) in
-      let r = s .height .reached in
-      let t = ends e (a .walks) (a .aims) x in
-      let m : length (t .list) ≤ l = omega (arith, s .longest .number, s .longest .shown .most (t .to-end)) in
-      record {
-        inside = decodes-fits e j (a .decodes) (walk-last x);
-        known = decodes-known e j (a .decodes) (walk-last x);
-        ext-some = decodes-ext e j (a .decodes) (walk-last x);
-        variable-low = decodes-variable e j (a .decodes) (walk-last x);
-        cells = a .walks .cells x i;
-        low = omega (arith, s .height .most x .0, r .4, a .walks .room (r .3) (start-in e (r .1) (walk-last (r .3))));
-        room = a .walks .room x i;
-        short = omega (arith, t .long);
-        shorter = λ q. omega (arith, t .longer q);
-      }
+  module _ {n g l : ℕ} (s : Accepted e n g l) {w : List ℕ} {j u : ℕ} (x : Walk e 0 0 w j u) where
+    pub walk-ready : Ready e j u
+    unfolding heightAfter
+    walk-ready =
+        let a = s .acceptable in
+        let i : j < length e = start-in e j (walk-last x) in
+        let r = s .height .reached in
+        record {
+          inside = decodes-fits e j (a .decodes) (walk-last x);
+          known = decodes-known e j (a .decodes) (walk-last x);
+          ext-some = decodes-ext e j (a .decodes) (walk-last x);
+          variable-low = decodes-variable e j (a .decodes) (walk-last x);
+          cells = a .walks .cells x i;
+          low = omega (arith, s .height .most x .0, r .4, a .walks .room (r .3) (start-in e (r .1) (walk-last (r .3))));
+          room = a .walks .room x i;
+        }
+
+    pub walk-within : WithinLongest e l w j
+    walk-within =
+        let a = s .acceptable in
+        let t = ends e (a .walks) (a .aims) x in
+        let m : length (t .list) ≤ l = omega (arith, s .longest .number, s .longest .shown .most (t .to-end)) in
+        record { short = omega (arith, t .long); shorter = λ q. omega (arith, t .longer q) }

@@ -8,6 +8,9 @@ use mathlib.Core.Path.{_≡_}
 use Prim.Native.Nat.{ℕ, _≤_, _<_}
 use native.Mathlib.Omega.{arith}
 use lib.ListN.{length}
+use Rattle.refusals.specs.declared.Refusal.{Refusal}
+use Rattle.refusals.specs.Numbers.{heights-differ, runs-off}
+use Rattle.refusals.specs.Refusal.{refusal}
 use Rattle.isa.specs.Classes.{kind-unsupported}
 use Rattle.isa.specs.Decode.{kindAt, next, heightAfter}
 use Rattle.isa.specs.Starts.{isStart}
@@ -15,7 +18,7 @@ use Rattle.isa.specs.Walk.{After, Walk, stop, weigh}
 use Rattle.isa.proofs.Promises.{start-in, start-zero, walk-last, walk-on}
 use Rattle.verdict.specs.Pass3.{heaviest}
 use Rattle.verdict.specs.Verdict.{accepted, refused, verdict}
-use Rattle.verdict.specs.Acceptance.{WalksFit, Acceptable, GreatestHeight, MostIs, Accepted, Ready, Broken, OneHeight, Justified, Means}
+use Rattle.verdict.specs.Acceptance.{WalksFit, Acceptable, GreatestHeight, MostIs, Accepted, Ready, WithinLongest, Broken, OneHeight, Justified, Means}
 use Rattle.verdict.proofs.Decoded.{decodes-fits, decodes-known}
 use Rattle.verdict.proofs.Along.{after-later, walk-length}
 use Rattle.verdict.proofs.Endings.{follows}
@@ -31,9 +34,9 @@ module _ (e : List ℕ) where
   pub verdict-accepted : {n g l : ℕ} → (verdict e ≡ accepted n g l) ↔ Accepted e n g l
   verdict-accepted = (λ p. rw p at (meaning.verdict-means e), meaning.accepted-verdict e)
 
-  -- V3. The answer is `refused r k` if and only if that refusal is justified: the size, the first start at fault, or
-  -- walks that show it at k, where none of 8 to 11 is met at a lower instruction and none of a lower number at k.
-  pub verdict-refused : {r k : ℕ} → (verdict e ≡ refused r k) ↔ Justified e r k
+  -- V3. The answer is `refused x` if and only if that refusal is justified: the size, the first start at fault, or
+  -- walks that show it, where none of 8 to 11 is met at a lower instruction and none of a lower number at this one.
+  pub verdict-refused : {x : Refusal} → (verdict e ≡ refused x) ↔ Justified e x
   verdict-refused = (λ p. rw p at (meaning.verdict-means e), meaning.refused-verdict e)
 
   -- So every answer is true;
@@ -41,10 +44,10 @@ module _ (e : List ℕ) where
   means = meaning.verdict-means e
 
   -- no two refusals of an expression are justified, and none is where it is accepted;
-  pub one-refusal : {r k s j : ℕ} → Justified e r k → Justified e s j → (r ≡ s) × (k ≡ j)
-  one-refusal x y = let p = verdict-refused .1 x in let q = verdict-refused .1 y in (cc, cc)
+  pub one-refusal : {x y : Refusal} → Justified e x → Justified e y → x ≡ y
+  one-refusal x y = let p = verdict-refused .1 x in let q = verdict-refused .1 y in cc
 
-  pub never-both : {n g l r k : ℕ} → Accepted e n g l → Justified e r k → ⊥
+  pub never-both : {n g l : ℕ} {x : Refusal} → Accepted e n g l → Justified e x → ⊥
   never-both x y = let p = verdict-accepted .1 x in let q = verdict-refused .1 y in let z : _≡_ {A = ℕ} 0 1 = cc in omega arith
 
   -- and each number of an acceptance is one number.
@@ -63,13 +66,18 @@ module _ (e : List ℕ) where
   fitting-accepted = meaning.fits-accepted e
 
   -- V3, of pass 3: a refusal from 8 up is shown by a walk, or two; no lower instruction is at fault; and heights do not
-  -- differ at k where the refusal is another.
-  pub refused-means : {r k : ℕ} → verdict e ≡ refused r k → 8 ≤ r → Broken e k r × WalksFit e k × (8 < r → OneHeight e k)
-  refused-means p h = meaning.late-broken e h (verdict-refused .0 p)
+  -- differ there where the refusal is another.
+  pub refused-means : {x : Refusal} → verdict e ≡ refused x → heights-differ ≤ x .number
+      → Broken e (x .offset) (x .number) × WalksFit e (x .offset) × (heights-differ < x .number → OneHeight e (x .offset))
+  refused-means p = meaning.late-broken e (verdict-refused .0 p)
 
-  -- The number of a refusal is one of 1 to 11.
-  pub refused-number : {r k : ℕ} → verdict e ≡ refused r k → (1 ≤ r) × (r ≤ 11)
+  -- The number of a refusal is one of 1 to 11;
+  pub refused-number : {x : Refusal} → verdict e ≡ refused x → (1 ≤ x .number) × (x .number ≤ runs-off)
   refused-number p = meaning.justified-number e (verdict-refused .0 p)
+
+  -- it has that and an offset, and nothing ran.
+  pub refused-plain : {x : Refusal} → verdict e ≡ refused x → x ≡ refusal (x .number) (x .offset)
+  refused-plain p = meaning.justified-plain e (verdict-refused .0 p)
 
   -- V5 over any weight f of the instructions: `heaviest f e` is the weight of some walk to an end, and none weighs
   -- more.
@@ -86,10 +94,13 @@ module _ (e : List ℕ) where
     pub begins : Walk e 0 0 (0 ∷ []) 0 0
     begins = stop (start-zero e (a .acceptable .sized .some))
 
-    -- at the last instruction of a walk: opcode and operands are there, the cells are there, the result fits, and the
-    -- walk is no longer than l
-    pub ready : {w : List ℕ} {j u : ℕ} → Walk e 0 0 w j u → Ready e l w j u
+    -- at the last instruction of a walk: opcode and operands are there, the cells are there, and the result fits
+    pub ready : {w : List ℕ} {j u : ℕ} → Walk e 0 0 w j u → Ready e j u
     ready = meaning.walk-ready e a
+
+    -- the walk is no longer than l
+    pub within-longest : {w : List ℕ} {j u : ℕ} → Walk e 0 0 w j u → WithinLongest e l w j
+    within-longest = meaning.walk-within e a
 
     -- the longest walk has at most as many instructions as the expression has bytes
     pub longest-length : l ≤ length e

@@ -8,6 +8,8 @@ use native.Mathlib.Omega.{arith}
 use native.Mathlib.Decide.{ℕ-discrete}
 use lib.ListN.{getD, length}
 use borrow.Author.Tests.{eq-eqb}
+use Rattle.refusals.specs.declared.Refusal.{Refusal}
+use Rattle.refusals.specs.Refusal.{refusal}
 use Rattle.isa.specs.Classes.{kind-end}
 use Rattle.isa.specs.Decode.{kindAt, next, heightAfter}
 use Rattle.isa.specs.Starts.{isStart}
@@ -16,7 +18,7 @@ use Rattle.isa.proofs.Promises.{start-in, before-next, walk-last}
 use Rattle.verdict.specs.Pass2.{Aims}
 use Rattle.verdict.specs.Pass3.{unreached, differing, joined, arrive, raise, passOn, fault3, longer, done, stopped, heights0, distances0, pass3}
 use Rattle.verdict.specs.Acceptance.{WalksFit, OneHeight, ToEnd}
-use Rattle.verdict.proofs.Along.{Fine, fine, after-later, after-start, walk-later, joined-first, joined-same, joined-differing, longer-end, longer-other, arrives, raises, pass-length, cell-kept, cell-changed, cell-before, heights0-length, heights0-zero, distances0-length, Preserved, Finished, Ended, pass3-ends}
+use Rattle.verdict.proofs.Along.{Fine, fine, after-later, after-start, walk-later, joined-first, joined-same, joined-differing, longer-end, longer-other, arrives, raises, pass-length, cell-kept, cell-changed, cell-before, heights0-length, heights0-zero, distances0-length, Preserved, Finished, EndsKeeping, pass3-ends}
 
 -- ---- a cell at which the height h has arrived: it is h, or heights differ there
 abbrev Arrived : ℕ → ℕ → Type 0
@@ -67,7 +69,7 @@ module _ (f : ℕ → ℕ) (e : List ℕ) where
   }
 
 -- the offset k is reached with height h, by the table
-record Reached (hs : List ℕ) (g k h : ℕ) : Type 0 where
+record HeightIn (hs : List ℕ) (g k h : ℕ) : Type 0 where
   pub height : getD hs k 0 ≡ h
   pub low : h ≤ 64
   pub most : h ≤ g
@@ -144,18 +146,18 @@ module _ {f : ℕ → ℕ} {e : List ℕ} (short : length e ≤ 1024) (aims : Ai
 
   -- ---- the walks to starts before i
   module _ {i : ℕ} {hs ds : List ℕ} {g l : ℕ} (s : Sound f e i hs ds g l) where
-    reached-zero : Reached hs g 0 0
+    reached-zero : HeightIn hs g 0 0
     reached-zero = record { height = s .begin; low = omega arith; most = omega arith }
 
     -- what is known of a reached start before i
-    settled : {k h : ℕ} → Reached hs g k h → isStart e k ≡ true → k < i → Settled f e k hs ds g l
+    settled : {k h : ℕ} → HeightIn hs g k h → isStart e k ≡ true → k < i → Settled f e k hs ds g l
     settled {k} r t q = s .before k q t (λ p. omega (arith, r .height, r .low))
 
-    fine-at : {k h : ℕ} → Reached hs g k h → isStart e k ≡ true → k < i → Fine e k h
+    fine-at : {k h : ℕ} → HeightIn hs g k h → isStart e k ≡ true → k < i → Fine e k h
     fine-at {k} {h} r t q = fine e k h (rw (r .height) at (settled r t q .clear))
 
     -- heights do not differ at what comes after a reached start
-    reached-next : {k h m : ℕ} → Reached hs g k h → isStart e k ≡ true → After e k m → m < i → Reached hs g m (heightAfter e k h)
+    reached-next : {k h m : ℕ} → HeightIn hs g k h → isStart e k ≡ true → After e k m → m < i → HeightIn hs g m (heightAfter e k h)
     reached-next {k} {h} {m} r t a q =
         let p : k < m = after-later aims t a in
         let z = settled r t (omega arith) in
@@ -169,12 +171,12 @@ module _ {f : ℕ → ℕ} {e : List ℕ} (short : length e ≤ 1024) (aims : Ai
         }
 
     -- a walk arrives with the height in the table
-    reached-by : {k h j u : ℕ} {w : List ℕ} → Walk e k h w j u → j < i → Reached hs g k h → Reached hs g j u
+    reached-by : {k h j u : ℕ} {w : List ℕ} → Walk e k h w j u → j < i → HeightIn hs g k h → HeightIn hs g j u
     reached-by (stop t) q r = r
     reached-by (step t a w) q r = reached-by w q (reached-next r t a (omega (arith, walk-later aims w)))
 
     -- a walk adds at most what the distances differ by, and the weight of its last start
-    weight-by : {k h j u : ℕ} {w : List ℕ} → Walk e k h w j u → j < i → Reached hs g k h → getD ds k 0 + weigh f w ≤ getD ds j 0 + f j
+    weight-by : {k h j u : ℕ} {w : List ℕ} → Walk e k h w j u → j < i → HeightIn hs g k h → getD ds k 0 + weigh f w ≤ getD ds j 0 + f j
     unfolding weigh
     weight-by (stop t) q r = omega arith
     weight-by (step {m = m} t a w) q r =
@@ -184,7 +186,7 @@ module _ {f : ℕ → ℕ} {e : List ℕ} (short : length e ≤ 1024) (aims : Ai
 
     -- what is known of the last start of a walk from offset 0
     module _ {w : List ℕ} {j u : ℕ} (x : Walk e 0 0 w j u) (q : j < i) where
-      reached : Reached hs g j u
+      reached : HeightIn hs g j u
       reached = reached-by x q reached-zero
 
       last-fine : Fine e j u
@@ -200,7 +202,7 @@ module _ {f : ℕ → ℕ} {e : List ℕ} (short : length e ≤ 1024) (aims : Ai
     module _ (same : getD hs i 0 ≢ differing) where
       -- a start on such a walk
       record Near (k h : ℕ) : Type 0 where
-        pub lower : k < i → Reached hs g k h
+        pub lower : k < i → HeightIn hs g k h
         pub here : k ≡ i → getD hs i 0 ≡ h
 
       near-zero : Near 0 0
@@ -232,22 +234,26 @@ module _ {f : ℕ → ℕ} {e : List ℕ} (short : length e ≤ 1024) (aims : Ai
 
 -- ---- what the pass finds
 module _ (f : ℕ → ℕ) (e : List ℕ) (short : length e ≤ 1024) (aims : Aims e) where
-  sound-ends : Ended e (Sound f e) (pass3 f e)
+  sound-ends : EndsKeeping e (Sound f e) (pass3 f e)
   sound-ends = pass3-ends (sound short aims) (sound-start f e)
 
-  -- where it stops at k, the walks to starts before k fit
-  pub walks-fit-stopped : {r k : ℕ} → pass3 f e ≡ stopped r k → WalksFit e k
-  walks-fit-stopped {k = k} p = walks-fit short aims ((rw p at sound-ends) .holds) k (omega arith)
+  -- where it stops, the walks to lower starts fit
+  pub walks-fit-stopped : {x : Refusal} → pass3 f e ≡ stopped x → WalksFit e (x .offset)
+  walks-fit-stopped {x} p = walks-fit short aims ((rw p at sound-ends) .holds) (x .offset) (omega arith)
+
+  -- with a number and an offset, and nothing else
+  pub stopped-plain : {x : Refusal} → pass3 f e ≡ stopped x → x ≡ refusal (x .number) (x .offset)
+  stopped-plain p = (rw p at sound-ends) .plain
 
   eight : (k h : ℕ) → h ≡ differing → fault3 e k h ≡ 8
   unfolding fault3
   eight k h q = rw (eq-eqb h differing q)
 
-  -- and those to k arrive at one height, where the number is not 8
-  pub one-height-stopped : {r k : ℕ} → pass3 f e ≡ stopped r k → 8 < r → OneHeight e k
-  one-height-stopped {k = k} p h =
-      let x = rw p at sound-ends in
-      one-height-at short aims (x .holds) (λ q. omega (arith, x .number, eight k (getD (x .hs) k 0) q))
+  -- and those to where it stops arrive at one height, where the number is not 8
+  pub one-height-stopped : {x : Refusal} → pass3 f e ≡ stopped x → 8 < x .number → OneHeight e (x .offset)
+  one-height-stopped {x} p h =
+      let t = rw p at sound-ends in
+      one-height-at short aims (t .holds) (λ q. omega (arith, t .number-is, eight (x .offset) (getD (t .hs) (x .offset) 0) q))
 
   module _ {hs ds : List ℕ} {g l : ℕ} (p : pass3 f e ≡ done hs ds g l) where
     finished : Finished e (Sound f e) hs ds g l

@@ -4,8 +4,10 @@ use mathlib.Core.Bool.{Bool, _&&_, _||_}
 use mathlib.Core.List.{List, [], _∷_}
 use Prim.Native.Nat.{ℕ}
 use lib.ListN.{length}
-use lib.Dec.{ltb, eqb}
-use Rattle.encoding.specs.Tried.{tried}
+use lib.Dec.{leb, ltb, eqb}
+use Rattle.sizes.specs.Sizes.{variable-count}
+use Rattle.refusals.specs.Numbers.{opcode-unknown, opcode-unsupported, operands-cut, operand-bad}
+use Rattle.refusals.specs.Tried.{tried}
 use Rattle.isa.specs.Classes.{kind-unknown, kind-unsupported, kind-ext, kind-variable}
 use Rattle.isa.specs.Decode.{kindAt, next, operand}
 use Rattle.isa.specs.Starts.{starts}
@@ -13,11 +15,13 @@ use Rattle.verdict.specs.Fault.{Fault, first, Clear}
 
 -- ext 0, or a variable above 63
 abbrev pub operandWrong : List ℕ → ℕ → Bool
-operandWrong e i = (eqb (kindAt e i) kind-ext && eqb (operand e i) 0) || (eqb (kindAt e i) kind-variable && ltb 63 (operand e i))
+operandWrong e i = (eqb (kindAt e i) kind-ext && eqb (operand e i) 0) || (eqb (kindAt e i) kind-variable && leb variable-count (operand e i))
 
 -- opcode unknown; unsupported; operands cut short; ext 0 or variable above 63
 abbrev pub tests1 : List ℕ → ℕ → List (Bool × ℕ)
-tests1 e i = (eqb (kindAt e i) kind-unknown, 2) ∷ (eqb (kindAt e i) kind-unsupported, 3) ∷ (ltb (length e) (next e i), 4) ∷ (operandWrong e i, 5) ∷ []
+tests1 e i =
+    (eqb (kindAt e i) kind-unknown, opcode-unknown) ∷ (eqb (kindAt e i) kind-unsupported, opcode-unsupported)
+    ∷ (ltb (length e) (next e i), operands-cut) ∷ (operandWrong e i, operand-bad) ∷ []
 
 -- the refusal at offset i, or 0
 unfoldable pub fault1 : List ℕ → ℕ → ℕ

@@ -4,14 +4,15 @@ use mathlib.Core.Bool.{Bool, not, _&&_}
 use mathlib.Core.List.{List, [], _∷_}
 use Prim.Native.Nat.{ℕ}
 use lib.Dec.{leb}
-use Rattle.encoding.specs.Tried.{tried}
+use Rattle.refusals.specs.Numbers.{jump-no-start, jump-not-forward}
+use Rattle.refusals.specs.Tried.{tried}
 use Rattle.isa.specs.Decode.{jumps, operand}
 use Rattle.isa.specs.Starts.{starts, isStart}
 use Rattle.verdict.specs.Fault.{Fault, first, Clear}
 
 -- jump not to a start; jump not forward
 abbrev pub tests2 : List ℕ → ℕ → List (Bool × ℕ)
-tests2 e k = (jumps e k && not (isStart e (operand e k)), 6) ∷ (jumps e k && leb (operand e k) k, 7) ∷ []
+tests2 e k = (jumps e k && not (isStart e (operand e k)), jump-no-start) ∷ (jumps e k && leb (operand e k) k, jump-not-forward) ∷ []
 
 -- the refusal at the start k, or 0
 unfoldable pub fault2 : List ℕ → ℕ → ℕ

@@ -1,7 +1,13 @@
 // Document 01's verifier is a definition: see specs/. The crates above follow it; here is only the form of its answer.
+use refusals::Refusal;
 
-// Accepted: instruction count, greatest height, longest walk. Refused: number and offset.
-pub enum Answer {
+// Accepted: instruction count, greatest height, longest walk.
+pub enum Verification {
     Accepted(usize, u8, usize),
-    Refused(u8, usize),
+    Refused(Refusal),
 }
+
+// Marks in a table of heights: nothing comes to this offset; heights that differ come to it. No height is above 64.
+pub const UNREACHED: u8 = 255;
+
+pub const DIFFERING: u8 = 254;

@@ -4,20 +4,22 @@ ghost use mathlib.Core.Path.{_≡_};
 ghost use mathlib.Core.Bool.{false};
 ghost use Prim.Native.Nat.{_≤_};
 ghost use lib.ListN.{length};
-ghost use Rattle.isa.specs.Rows.{table};
+ghost use Rattle.sizes.specs.Sizes.{«expression-most»};
+ghost use Rattle.isa.specs.joining.Rows.{table};
 ghost use Rattle.verdict.specs.Verdict.{verdict, verdictOf, SetsNothing};
-ghost use Rattle.acceptor.specs.StraightCode.{Following};
+ghost use Rattle.acceptor.specs.joining.StraightCode.{Following};
 use acceptor::Stop;
-use verdict::Answer;
+use refusals::refusal_at;
+use verdict::Verification;
 
 // An answer, and whether a setv may occur: where `sets` is false, no instruction of the expression is one.
 pub struct Noted {
-    pub answer: Answer,
+    pub answer: Verification,
     pub sets: bool,
 }
 
 // The verifier.
-pub fn verify(e: &[u8]) -> Answer
+pub fn verify(e: &[u8]) -> Verification
     ensures { λ r. ⌜ verdictOf r ≡ verdict (now (e .entry)) ⌝ }
 {
     let noted = verify_noting(e);
@@ -28,16 +30,17 @@ pub fn verify(e: &[u8]) -> Answer
 pub fn verify_noting(e: &[u8]) -> Noted
     ensures { λ r. ⌜ (verdictOf (r .answer) ≡ verdict (now (e .entry))) × (r .sets ≡ false → SetsNothing (now (e .entry))) ⌝ }
 {
-    if 1024 < e.len() {
+    if sizes::EXPRESSION_MOST < e.len() {
         return Noted {
-            answer: Answer::Refused(1, 0),
+            answer: Verification::Refused(refusal_at(refusals::EXPRESSION_SIZE, 0)),
             sets: true,
         };
     }
     let stop = acceptor::accept_straight(e);
     if stop.stop == acceptor::ACCEPTED {
+        let height = stop.greatest as u8;
         return Noted {
-            answer: Answer::Accepted(stop.count, stop.greatest as u8, stop.count),
+            answer: Verification::Accepted(stop.count, height, stop.count),
             sets: stop.sets,
         };
     }
@@ -49,13 +52,14 @@ pub fn verify_noting(e: &[u8]) -> Noted
 
 // An expression that is no straight code, from its first jump on, or from an end that is not its last byte.
 fn verify_branching(e: &[u8], from: Stop) -> Noted
-    requires { ⌜ (length (now e) ≤ 1024) × Following (now e) (from .at) (from .height) (from .count) (from .greatest) (from .sets) ⌝ }
+    requires { ⌜ (length (now e) ≤ expression-most) × Following (now e) (from .at) (from .height) (from .count) (from .greatest) (from .sets) ⌝ }
     ensures { λ r. ⌜ (verdictOf (r .answer) ≡ verdict (now (e .entry))) × (r .sets ≡ false → SetsNothing (now (e .entry))) ⌝ }
 {
     let state = acceptor::accept_branching(e, from);
     if state.stop == acceptor::ACCEPTED {
+        let height = state.greatest as u8;
         return Noted {
-            answer: Answer::Accepted(state.count, state.greatest as u8, state.longest),
+            answer: Verification::Accepted(state.count, height, state.longest),
             sets: state.sets,
         };
     }
@@ -73,7 +77,7 @@ fn in_doubt(e: &[u8]) -> Noted
 }
 
 // The verdict, for a caller that already holds the rows.
-pub fn verify_by(rows: &[[u8; 4]; 53], e: &[u8]) -> Answer
+pub fn verify_by(rows: &[[u8; 4]; 53], e: &[u8]) -> Verification
     requires { ⌜ now rows ≡ table ⌝ }
     ensures { λ r. ⌜ verdictOf r ≡ verdict (now (e .entry)) ⌝ }
 {

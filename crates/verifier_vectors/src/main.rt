@@ -1,10 +1,11 @@
 // Test vectors for the verifier: a line of hexadecimal in, a line with the verifier's answer out.
 ghost use Rattle.io.specs.Counts.{Counts};
+use hexadecimal::HexAnswer;
 use libc::STDOUT_FILENO;
-use report::hex::Decoded;
-use report::text::append;
-use report::text::append_number;
-use verdict::Answer;
+use refusals::Refusal;
+use text_buffer::append;
+use text_buffer::append_number;
+use verdict::Verification;
 
 fn append_accepted(out: &mut [u8], count: usize, height: u8, walk: usize) -> usize
     ensures { λ r. ⌜ Counts r (now (out .exit)) ⌝ }
@@ -18,13 +19,13 @@ fn append_accepted(out: &mut [u8], count: usize, height: u8, walk: usize) -> usi
     append(out, f, b"\n")
 }
 
-fn append_refused(out: &mut [u8], number: u8, offset: usize) -> usize
+fn append_refused(out: &mut [u8], refusal: Refusal) -> usize
     ensures { λ r. ⌜ Counts r (now (out .exit)) ⌝ }
 {
     let a = append(out, 0, b"refused ");
-    let b = append_number(out, a, number as u64);
+    let b = append_number(out, a, refusal.number as u64);
     let c = append(out, b, b" ");
-    let d = append_number(out, c, offset as u64);
+    let d = append_number(out, c, refusal.offset as u64);
     append(out, d, b"\n")
 }
 
@@ -32,8 +33,8 @@ fn append_answer(out: &mut [u8], expression: &[u8]) -> usize
     ensures { λ r. ⌜ Counts r (now (out .exit)) ⌝ }
 {
     match verifier::verify(expression) {
-        Answer::Accepted(count, height, walk) => append_accepted(out, count, height, walk),
-        Answer::Refused(number, offset) => append_refused(out, number, offset),
+        Verification::Accepted(count, height, walk) => append_accepted(out, count, height, walk),
+        Verification::Refused(refusal) => append_refused(out, refusal),
     }
 }
 
@@ -49,8 +50,8 @@ fn print_broken() {
 
 fn answer_text(text: &[u8]) {
     let mut bytes = [0u8; 4096];
-    match report::hex::decode(text, &mut bytes) {
-        Decoded::Bytes(n) => print_answer(&bytes[0..n]),
+    match hexadecimal::decode(text, &mut bytes) {
+        HexAnswer::Bytes(n) => print_answer(&bytes[0..n]),
         _ => print_broken(),
     }
 }

@@ -2,7 +2,7 @@
 ghost use mathlib.Core.Path.{_≡_};
 ghost use Rattle.reader.specs.Located.{walked, placeAfter};
 ghost use Rattle.reader.specs.Answers.{locatedOf};
-use reader::Place;
+use reader::FrameAnswer;
 
 pub struct Walker<'a> {
     pub buffer: &'a [u8],
@@ -20,17 +20,17 @@ pub fn new<'a>(buffer: &'a [u8], used: usize) -> Walker<'a>
 }
 
 // Where the walker is after a step: at the frame's start, or where it was if there is none.
-fn place_after(place: usize, found: Place) -> usize
+fn place_after(place: usize, found: FrameAnswer) -> usize
     ensures { λ r. ⌜ r ≡ placeAfter place (locatedOf found) ⌝ }
 {
     match found {
-        Place::Frame(tracepoint, start, length) => start,
-        Place::NoFrame(refusal, offset) => place,
+        FrameAnswer::Frame(tag, start, length) => start,
+        FrameAnswer::Refused(refusal) => place,
     }
 }
 
 // One step: the next older frame, or a refusal with the place kept.
-pub fn step<'s, 'a>(w: &'s mut Walker<'a>) -> Place
+pub fn step<'s, 'a>(w: &'s mut Walker<'a>) -> FrameAnswer
     ensures { λ r. ⌜ (locatedOf r ≡ walked (now (now (w .entry) .buffer)) (now (w .entry) .place))
         × (now (w .exit) .buffer ≡ now (w .entry) .buffer)
         × (now (w .exit) .place ≡ placeAfter (now (w .entry) .place) (walked (now (now (w .entry) .buffer)) (now (w .entry) .place))) ⌝ }

@@ -2,7 +2,7 @@ use denote.Ref.{now}
 use mathlib.Core.Path.{ap, sym, _∙_}
 use native.Mathlib.Omega.{arith}
 use lib.ListN.{List·getD-eq-default}
-use Rattle.frames.specs.Reading.{sizeOf}
+use Rattle.frames.specs.joining.Answers.{sizeOf}
 use Rattle.frames.proofs.Reading.{memory-mark, variable-mark, other-mark}
 use borrow.Author.Needs.{needs}
 use Rattle.frames.proofs.record_size.Statement.{statement}

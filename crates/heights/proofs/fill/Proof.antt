@@ -1,7 +1,7 @@
 use borrow.Author.Needs.{needs}
 use Prim.Native.Nat.{_-_}
 use lib.ListN.{length}
-use Rattle.heights.specs.Filling.{Filling}
+use Rattle.heights.specs.joining.Filling.{Filling}
 use Rattle.heights.proofs.Turning.{filling-start, filling-end}
 use Rattle.heights.proofs.fill.Statement.{statement}
 use Rattle.heights.proofs.fill.Tie as tie

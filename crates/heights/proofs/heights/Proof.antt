@@ -1,6 +1,6 @@
 use mathlib.Core.Path.{refl}
 use Rattle.isa.specs.Classes.{opcodes, classOf}
-use Rattle.isa.specs.Rows.{rowsFrom, table}
+use Rattle.isa.specs.joining.Rows.{rowsFrom, table}
 use borrow.Author.Needs.{needs}
 use Rattle.heights.proofs.heights.Statement.{statement}
 use Rattle.heights.proofs.heights.Tie as tie

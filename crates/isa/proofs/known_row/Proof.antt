@@ -3,7 +3,7 @@ use mathlib.Core.Path.{_≡_, ap, _∙_}
 use Prim.Native.Nat.{ℕ}
 use lib.ListN.{getD}
 use Rattle.isa.specs.Classes.{classOf}
-use Rattle.isa.specs.Rows.{line}
+use Rattle.isa.specs.joining.Rows.{line}
 use Rattle.isa.proofs.Table.{row-at}
 use borrow.Author.Needs.{needs}
 use Rattle.isa.proofs.known_row.Statement.{statement}

@@ -1,6 +1,6 @@
 use mathlib.Core.Path.{refl}
 use Rattle.isa.specs.Classes.{opcodes, classOf}
-use Rattle.isa.specs.Rows.{rowsFrom, table}
+use Rattle.isa.specs.joining.Rows.{rowsFrom, table}
 use borrow.Author.Needs.{needs}
 use Rattle.isa.proofs.look_up.Statement.{statement}
 use Rattle.isa.proofs.look_up.Tie as tie

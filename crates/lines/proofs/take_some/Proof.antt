@@ -1,4 +1,5 @@
--- `lines::take_some` is safe: the line's buffer keeps its length. The measure is what is left of the input. Assumes nothing.
+-- `lines::take_some` is safe: the line's buffer keeps its length. The measure is what is left of the input. Assumes
+-- nothing.
 use borrow.Author.Needs.{needs}
 use Prim.Native.Nat.{_-_}
 use mathlib.Core.Path.{_≡_}

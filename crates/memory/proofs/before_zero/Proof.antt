@@ -1,7 +1,7 @@
 use borrow.Author.Needs.{needs}
 use Prim.Native.Nat.{_-_}
 use native.Mathlib.Omega.{arith}
-use Rattle.memory.specs.FirstZero.{Passed}
+use Rattle.memory.specs.joining.Searching.{Passed}
 use Rattle.memory.proofs.Searching.{passed-none, passed-block}
 use Rattle.memory.proofs.before_zero.Statement.{statement}
 use Rattle.memory.proofs.before_zero.Tie as tie

@@ -11,7 +11,7 @@ spans-refusal-requires c κs = search needs
 returns : tie.Need-returns
 returns c =
     let s = c .before .spans-refusal .ensures in
-    s ∙ fetch-first _ _ _ _ (λ e. c .if1 .taken (s ∙ e)) _ _
+    s ∙ fetch-first _ (λ e. c .if1 .taken (s ∙ e)) _ _
 
 rest-requires : tie.Need-rest-requires
 rest-requires c κs = search needs
@@ -20,13 +20,13 @@ returns-2 : tie.Need-returns-2
 returns-2 c =
     let r = c .before in
     let i = r .before in
-    refusal-short _ _ _ _ (sym (i .before .spans-refusal .ensures) ∙ i .if1 .left) _ (r .rest .ensures) (omega arith)
+    refusal-short _ (sym (i .before .spans-refusal .ensures) ∙ i .if1 .left) _ (r .rest .ensures) (omega arith)
 
 returns-3 : tie.Need-returns-3
 returns-3 c =
     let r = c .before in
     let i = r .before in
-    refusal-none _ _ _ _ (sym (i .before .spans-refusal .ensures) ∙ i .if1 .left) _ (r .rest .ensures) (omega arith)
+    refusal-none _ (sym (i .before .spans-refusal .ensures) ∙ i .if1 .left) _ (r .rest .ensures) (omega arith)
 
 pub fetch-refusal-spec : {M : Type 1} → statement M
 fetch-refusal-spec =

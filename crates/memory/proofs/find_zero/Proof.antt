@@ -1,7 +1,7 @@
 use borrow.Author.Needs.{needs}
 use native.Mathlib.Omega.{arith}
 use Prim.Native.Nat.{_-_}
-use Rattle.memory.specs.FirstZero.{Passed}
+use Rattle.memory.specs.joining.Searching.{Passed}
 use Rattle.memory.proofs.Searching.{passed-size, passed-end, passed-zero, passed-turn}
 use Rattle.memory.proofs.find_zero.Statement.{statement}
 use Rattle.memory.proofs.find_zero.Tie as tie

@@ -3,7 +3,7 @@ use mathlib.Core.Logic.{⊎-elim}
 use mathlib.Core.Path.{_≡_}
 use Prim.Native.Nat.{_-_, _≤_}
 use native.Mathlib.Omega.{arith}
-use Rattle.memory.specs.FirstZero.{Looked}
+use Rattle.memory.specs.joining.Searching.{Looked}
 use Rattle.memory.proofs.Searching.{looked-none, looked-zero, looked-other}
 use Rattle.memory.proofs.has_zero.Statement.{statement}
 use Rattle.memory.proofs.has_zero.Tie as tie

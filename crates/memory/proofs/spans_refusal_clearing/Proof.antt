@@ -8,7 +8,7 @@ ends-past-requires : tie.Need-ends-past-requires
 ends-past-requires c κs = search needs
 
 returns : tie.Need-returns
-returns c = let i = c .before in (spans-image-past _ _ _ _ (sym (i .ends-past .ensures .0) ∙ c .if1 .taken), λ _. i .ends-past .ensures .1 (c .if1 .taken))
+returns c = let i = c .before in (spans-image-past _ (sym (i .ends-past .ensures .0) ∙ c .if1 .taken), λ _. i .ends-past .ensures .1 (c .if1 .taken))
 
 ends-past-requires-2 : tie.Need-ends-past-requires-2
 ends-past-requires-2 c κs = search needs
@@ -17,7 +17,7 @@ returns-2 : tie.Need-returns-2
 returns-2 c =
     let i = c .before in
     let e = i .before .before in
-    (spans-work-past _ _ _ _ (sym (e .before .ends-past .ensures .0) ∙ e .if1 .left) (sym (i .ends-past2 .ensures .0) ∙ c .if2 .taken), λ _. i .ends-past2 .ensures .1 (c .if2 .taken))
+    (spans-work-past _ (sym (e .before .ends-past .ensures .0) ∙ e .if1 .left) (sym (i .ends-past2 .ensures .0) ∙ c .if2 .taken), λ _. i .ends-past2 .ensures .1 (c .if2 .taken))
 
 share-address-requires : tie.Need-share-address-requires
 share-address-requires c κs = search needs
@@ -27,7 +27,7 @@ returns-3 c =
     let i = c .before in
     let s = i .before .before in
     let e = s .before .before .before in (
-      spans-share _ _ _ _ (sym (e .before .ends-past .ensures .0) ∙ e .if1 .left) (sym (s .before .ends-past2 .ensures .0) ∙ s .if2 .left) (sym (i .share-address .ensures .0) ∙ c .if3 .taken),
+      spans-share _ (sym (e .before .ends-past .ensures .0) ∙ e .if1 .left) (sym (s .before .ends-past2 .ensures .0) ∙ s .if2 .left) (sym (i .share-address .ensures .0) ∙ c .if3 .taken),
       λ _. i .share-address .ensures .1 (c .if3 .taken),
     )
 
@@ -36,7 +36,7 @@ returns-4 c =
     let i = c .before in
     let s = i .before .before in
     let e = s .before .before .before in (
-      spans-none _ _ _ _ (sym (e .before .ends-past .ensures .0) ∙ e .if1 .left) (sym (s .before .ends-past2 .ensures .0) ∙ s .if2 .left) (sym (i .share-address .ensures .0) ∙ c .if3 .left),
+      spans-none _ (sym (e .before .ends-past .ensures .0) ∙ e .if1 .left) (sym (s .before .ends-past2 .ensures .0) ∙ s .if2 .left) (sym (i .share-address .ensures .0) ∙ c .if3 .left),
       λ n. absurd (n refl),
     )
 

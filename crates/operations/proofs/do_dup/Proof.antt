@@ -1,5 +1,6 @@
 use mathlib.Core.Path.{refl}
 use Rattle.operations.proofs.Placing.{next-here, needed-here}
+use Rattle.operations.proofs.Doing.{did-cells}
 use borrow.Author.Needs.{needs}
 use Rattle.operations.proofs.do_dup.Statement.{statement}
 use Rattle.operations.proofs.do_dup.Tie as tie
@@ -27,7 +28,7 @@ returns : tie.Need-returns
 returns c =
     let r = c .before .before in let n = r .before .before in let x = n .before .before .before in let s = x .before .before in
     let e = rw (needed-here (s .pre) (n .needed-of .ensures)) at (r .replace .ensures .1) in
-    record { stop = refl; at = next-here (s .pre) (x .next-of .ensures); stack = cc e; put = refl; long = c .replace2 .ensures .2 }
+    did-cells refl (c .replace2 .ensures .2) (s .pre) refl refl (next-here (s .pre) (x .next-of .ensures)) (cc e)
 
 pub do-dup-spec : {M : Type 1} → statement M
 do-dup-spec = tie.close (tie.spec next-of-requires below-requires needed-of-requires replace-requires replace-requires-2 returns)

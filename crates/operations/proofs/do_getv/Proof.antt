@@ -1,6 +1,7 @@
 use mathlib.Core.Path.{refl}
 use native.Mathlib.Omega.{arith}
 use Rattle.operations.proofs.Placing.{next-here, needed-here}
+use Rattle.operations.proofs.Doing.{did-cells}
 use borrow.Author.Needs.{needs}
 use Rattle.operations.proofs.do_getv.Statement.{statement}
 use Rattle.operations.proofs.do_getv.Tie as tie
@@ -15,7 +16,7 @@ mul-word : tie.Need-mul-word
 mul-word c = search needs
 
 element-copy-out-word : tie.Need-element-copy-out-word
-element-copy-out-word c = omega (arith, c .before .before .before .pre .variable-low refl, c .operand-at .ensures .0)
+element-copy-out-word c = omega (arith, c .before .before .before .pre .fits .variable-low refl, c .operand-at .ensures .0)
 
 needed-of-requires : tie.Need-needed-of-requires
 needed-of-requires c κs = search needs
@@ -29,7 +30,7 @@ returns : tie.Need-returns
 returns c =
     let n = c .before .before in let x = n .before .before .before in let s = x .before .before in
     let e = rw (needed-here (s .pre) (n .needed-of .ensures)) at (c .replace .ensures .1) in
-    record { stop = refl; at = next-here (s .pre) (x .next-of .ensures); stack = cc e; put = refl; long = c .replace .ensures .2 }
+    did-cells refl (c .replace .ensures .2) (s .pre) refl refl (next-here (s .pre) (x .next-of .ensures)) (cc e)
 
 pub do-getv-spec : {M : Type 1} → statement M
 do-getv-spec =

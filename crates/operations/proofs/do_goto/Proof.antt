@@ -1,5 +1,6 @@
 use mathlib.Core.Path.{refl}
 use Rattle.operations.proofs.Placing.{cells-here, taken-here}
+use Rattle.operations.proofs.Doing.{did-cells}
 use borrow.Author.Needs.{needs}
 use Rattle.operations.proofs.do_goto.Statement.{statement}
 use Rattle.operations.proofs.do_goto.Tie as tie
@@ -14,7 +15,7 @@ height-of-requires c κs =
 returns : tie.Need-returns
 returns c =
     let o = c .before in let s = o .before .before in
-    record { stop = refl; at = o .operand-at .ensures .0; stack = taken-here (s .pre) (c .height-of .ensures) refl; put = refl; long = s .pre .long }
+    did-cells refl (s .pre .lent .long) (s .pre) refl refl (o .operand-at .ensures .0) (taken-here (s .pre) (c .height-of .ensures) refl)
 
 pub do-goto-spec : {M : Type 1} → statement M
 do-goto-spec = tie.close (tie.spec operand-at-requires height-of-requires returns)

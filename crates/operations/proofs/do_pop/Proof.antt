@@ -1,5 +1,6 @@
 use mathlib.Core.Path.{refl}
 use Rattle.operations.proofs.Placing.{next-here, cells-here, taken-here}
+use Rattle.operations.proofs.Doing.{did-cells}
 use borrow.Author.Needs.{needs}
 use Rattle.operations.proofs.do_pop.Statement.{statement}
 use Rattle.operations.proofs.do_pop.Tie as tie
@@ -14,7 +15,7 @@ height-of-requires c κs =
 returns : tie.Need-returns
 returns c =
     let x = c .before in let s = x .before .before in
-    record { stop = refl; at = next-here (s .pre) (x .next-of .ensures); stack = taken-here (s .pre) (c .height-of .ensures) refl; put = refl; long = s .pre .long }
+    did-cells refl (s .pre .lent .long) (s .pre) refl refl (next-here (s .pre) (x .next-of .ensures)) (taken-here (s .pre) (c .height-of .ensures) refl)
 
 pub do-pop-spec : {M : Type 1} → statement M
 do-pop-spec = tie.close (tie.spec next-of-requires height-of-requires returns)

@@ -1,5 +1,6 @@
 use mathlib.Core.Path.{refl}
 use Rattle.operations.proofs.Placing.{next-here, needed-here}
+use Rattle.operations.proofs.Doing.{did-cells}
 use borrow.Author.Needs.{needs}
 use Rattle.operations.proofs.do_rot.Statement.{statement}
 use Rattle.operations.proofs.do_rot.Tie as tie
@@ -39,13 +40,7 @@ returns c =
     let r2 = c .before .before in let r = r2 .before .before in let n = r .before .before in
     let a = n .before in let b = a .before .before in let d = b .before .before in let x = d .before .before in let s = x .before .before in
     let e = rw (needed-here (s .pre) (n .needed-of .ensures)) at (r .replace .ensures .1) in
-    record {
-      stop = refl;
-      at = next-here (s .pre) (x .next-of .ensures);
-      stack = cc (e, r2 .replace2 .ensures .1, a .below3 .ensures, b .below2 .ensures, d .below .ensures);
-      put = refl;
-      long = c .replace3 .ensures .2;
-    }
+    did-cells refl (c .replace3 .ensures .2) (s .pre) refl refl (next-here (s .pre) (x .next-of .ensures)) (cc (e, r2 .replace2 .ensures .1, a .below3 .ensures, b .below2 .ensures, d .below .ensures))
 
 pub do-rot-spec : {M : Type 1} → statement M
 do-rot-spec =

@@ -2,6 +2,7 @@ use mathlib.Core.Path.{refl}
 use native.Mathlib.Omega.{arith}
 use Rattle.isa.proofs.Promises.{held-top}
 use Rattle.operations.proofs.Placing.{next-here, cells-here, same-here}
+use Rattle.operations.proofs.Doing.{did-cells}
 use borrow.Author.Needs.{needs}
 use Rattle.operations.proofs.do_setv.Statement.{statement}
 use Rattle.operations.proofs.do_setv.Tie as tie
@@ -19,7 +20,7 @@ mul-variables : tie.Need-mul-variables
 mul-variables c = search needs
 
 element-write-variables : tie.Need-element-write-variables
-element-write-variables c = omega (arith, c .before .before .before .before .pre .variable-low refl, c .before .operand-at .ensures .0)
+element-write-variables c = omega (arith, c .before .before .before .before .pre .fits .variable-low refl, c .before .operand-at .ensures .0)
 
 height-of-requires : tie.Need-height-of-requires
 height-of-requires c κs =
@@ -28,13 +29,8 @@ height-of-requires c κs =
 returns : tie.Need-returns
 returns c =
     let x = c .before .before .before in let s = x .before .before in (
-      record {
-        stop = refl;
-        at = next-here (s .pre) (x .next-of .ensures);
-        stack = rw (same-here (s .pre) (c .height-of .ensures) refl) (held-top _ _ (omega (arith, s .pre .cells)));
-        put = refl;
-        long = s .pre .long;
-      },
+      did-cells refl (s .pre .lent .long) (s .pre) refl refl (next-here (s .pre) (x .next-of .ensures))
+          (rw (same-here (s .pre) (c .height-of .ensures) refl) (held-top _ _ (omega (arith, s .pre .fits .cells)))),
       cc,
     )
 

@@ -1,5 +1,6 @@
 use mathlib.Core.Path.{refl}
 use Rattle.operations.proofs.Placing.{next-here, needed-here}
+use Rattle.operations.proofs.Doing.{did-cells}
 use borrow.Author.Needs.{needs}
 use Rattle.operations.proofs.do_unary.Statement.{statement}
 use Rattle.operations.proofs.do_unary.Tie as tie
@@ -25,7 +26,7 @@ returns : tie.Need-returns
 returns c =
     let n = c .before .before in let x = n .before .before .before .before in let s = x .before .before in
     let e = rw (needed-here (s .pre) (n .needed-of .ensures)) at (c .replace .ensures .1) in
-    record { stop = refl; at = next-here (s .pre) (x .next-of .ensures); stack = cc e; put = refl; long = c .replace .ensures .2 }
+    did-cells refl (c .replace .ensures .2) (s .pre) refl refl (next-here (s .pre) (x .next-of .ensures)) (cc e)
 
 pub do-unary-spec : {M : Type 1} → statement M
 do-unary-spec =

@@ -1,5 +1,5 @@
 use mathlib.Core.Path.{sym, _∙_}
-use Rattle.verdict.proofs.Cases.{verdict-1, verdict-2, verdict-3}
+use Rattle.verdict.proofs.Deciding.{verdict-1, verdict-2, verdict-3}
 use Rattle.passes.proofs.Answering.{aim-fine, aim-fault}
 use borrow.Author.Needs.{needs}
 use Rattle.passes.proofs.pass_all.Statement.{statement}
@@ -9,8 +9,8 @@ scan-requires : tie.Need-scan-requires
 scan-requires c κs =
     let p = c .before .before .before .before .before .before .before .pre in (p .0, (p .2, p .3))
 
-enum-known-number : tie.Need-enum-known-number
-enum-known-number c = search needs
+enum-known-refusal : tie.Need-enum-known-refusal
+enum-known-refusal c = search needs
 
 enum-known-count : tie.Need-enum-known-count
 enum-known-count c = search needs
@@ -22,8 +22,8 @@ aim-requires c κs =
     let start = at-scan .before .before .before .before .before .before .before .before in
     let p = start .pre in let s = rw (at-count .count .given .1) at (at-scan .scan .ensures) in (p .2, s .0, s .2, s .3)
 
-enum-known-number-2 : tie.Need-enum-known-number-2
-enum-known-number-2 c = search needs
+enum-known-refusal-2 : tie.Need-enum-known-refusal-2
+enum-known-refusal-2 c = search needs
 
 enum-told : tie.Need-enum-told
 enum-told c = search needs
@@ -48,10 +48,10 @@ same-length-2 c = search needs
 
 returns : tie.Need-returns
 returns c =
-    let at-number = c .before in
-    let at-scan = at-number .before .before .before .before .before .before in
+    let at-refusal = c .before in
+    let at-scan = at-refusal .before .before .before .before .before .before in
     let start = at-scan .before .before .before .before .before .before .before .before in
-    let p = start .pre in verdict-1 _ (p .1) (p .2) _ _ (rw (at-number .number .given .1) at (at-scan .scan .ensures))
+    let p = start .pre in verdict-1 _ (p .1) (p .2) _ (rw (at-refusal .refusal .given .1) at (at-scan .scan .ensures))
 
 same-length-3 : tie.Need-same-length-3
 same-length-3 c = search needs
@@ -61,12 +61,12 @@ same-length-4 c = search needs
 
 returns-2 : tie.Need-returns-2
 returns-2 c =
-    let at-number2 = c .before in
-    let at-aim = at-number2 .before .before in
+    let at-refusal2 = c .before in
+    let at-aim = at-refusal2 .before .before in
     let at-count = at-aim .before .before .before .before in
     let at-scan = at-count .before .before .before .before .before .before in
     let start = at-scan .before .before .before .before .before .before .before .before in
-    let p = start .pre in let s = rw (at-count .count .given .1) at (at-scan .scan .ensures) in verdict-2 _ (p .1) (p .2) (s .0) _ _ (aim-fault _ _ _ (sym (at-number2 .number2 .given .1) ∙ at-aim .aim .ensures))
+    let p = start .pre in let s = rw (at-count .count .given .1) at (at-scan .scan .ensures) in verdict-2 _ (p .1) (p .2) (s .0) _ (aim-fault _ _ (sym (at-refusal2 .refusal2 .given .1) ∙ at-aim .aim .ensures))
 
 same-length-5 : tie.Need-same-length-5
 same-length-5 c = search needs
@@ -95,10 +95,10 @@ pass-all-spec =
     tie.close
     (tie.spec
     scan-requires
-    enum-known-number
+    enum-known-refusal
     enum-known-count
     aim-requires
-    enum-known-number-2
+    enum-known-refusal-2
     enum-told
     measure-requires
     conclude-requires

@@ -1,14 +1,20 @@
 use native.Mathlib.Omega.{arith}
-use Rattle.verdict.proofs.Cases.{verdict-empty, verdict-long}
+use Rattle.verdict.proofs.Deciding.{verdict-empty, verdict-long}
 use borrow.Author.Needs.{needs}
 use Rattle.passes.proofs.verify_by.Statement.{statement}
 use Rattle.passes.proofs.verify_by.Tie as tie
 
+refusal-at-requires : tie.Need-refusal-at-requires
+refusal-at-requires c κs = search needs
+
 returns : tie.Need-returns
-returns c = verdict-empty _ (omega arith)
+returns c = rw (c .refusal-at .ensures) (verdict-empty _ (omega arith))
+
+refusal-at-requires-2 : tie.Need-refusal-at-requires-2
+refusal-at-requires-2 c κs = search needs
 
 returns-2 : tie.Need-returns-2
-returns-2 c = verdict-long _ (omega arith)
+returns-2 c = rw (c .refusal-at2 .ensures) (verdict-long _ (omega arith))
 
 verify-short-requires : tie.Need-verify-short-requires
 verify-short-requires c κs = (c .before .before .before .before .pre, omega arith, omega arith)
@@ -26,7 +32,9 @@ pub verify-by-spec : {M : Type 1} → statement M
 verify-by-spec =
     tie.close
     (tie.spec
+    refusal-at-requires
     returns
+    refusal-at-requires-2
     returns-2
     verify-short-requires
     returns-3

@@ -3,7 +3,7 @@ use mathlib.Core.Logic.{⊎-elim}
 use mathlib.Core.Path.{_≡_, ap, _∙_}
 use Rattle.encoding.proofs.Promises.{part-lent}
 use Rattle.frames.specs.Record.{decode}
-use Rattle.frames.specs.Reading.{sizeOf}
+use Rattle.frames.specs.joining.Answers.{sizeOf}
 use Prim.Native.Nat.{_+_, _-_}
 use native.Mathlib.Omega.{arith}
 use lib.ListN.{length, take, drop}

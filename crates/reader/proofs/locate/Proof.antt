@@ -2,14 +2,16 @@ use denote.Ref.{now}
 use mathlib.Core.Path.{sym, ap, _∙_}
 use native.Mathlib.Omega.{arith}
 use borrow.Author.Needs.{needs}
+use Rattle.frames.proofs.Promises.{fit-lengths}
+use Rattle.reader.specs.Located.{refused}
 use Rattle.reader.specs.Answers.{locatedOf}
-use Rattle.reader.proofs.Locating.{Back, fit-lengths, located-unfit, back-begins, back-last, back-refused, back-again}
+use Rattle.reader.proofs.Locating.{Back, located-unfit, back-begins, back-last, back-refused, back-again}
 use Rattle.reader.proofs.locate.Statement.{statement}
 use Rattle.reader.proofs.locate.Tie as tie
 use Rattle.reader.proofs.locate.Reads as reads
 use Rattle.reader.proofs.locate.Lts as lts
 use Rattle.reader.proofs.frame_before.Reads as frame-before-reads
-use Rattle.reader.proofs.is_unfit.Reads as is-unfit-reads
+use Rattle.frames.proofs.is_unfit.Reads as is-unfit-reads
 
 abbrev Inv-loop : tie.InvT-loop
 Inv-loop buffer used number end₀ left₀ end left = Back buffer used number end left
@@ -20,8 +22,14 @@ abbrev μ-loop : tie.MeasureT-loop
 is-unfit-requires : tie.Need-is-unfit-requires Inv-loop μ-loop
 is-unfit-requires c κs = search needs
 
+refusal-at-requires : tie.Need-refusal-at-requires Inv-loop μ-loop
+refusal-at-requires c κs = search needs
+
 returns : tie.Need-returns Inv-loop μ-loop
-returns c = let a = c .before .before .before .args in located-unfit (now (a .buffer)) (a .used) (a .number) (sym (c .before .is-unfit .ensures) ∙ c .if1 .taken)
+returns c =
+    let t = c .before in
+    let a = t .before .before .before .args in
+    ap refused (c .refusal-at .ensures) ∙ located-unfit (now (a .buffer)) (a .used) (a .number) (sym (t .before .is-unfit .ensures) ∙ t .if1 .taken)
 
 loop-holds : tie.Need-loop-holds Inv-loop μ-loop
 loop-holds c =
@@ -38,13 +46,13 @@ enum-known-refusal c = search needs
 returns-2 : tie.Need-returns-2 Inv-loop μ-loop
 returns-2 c = back-refused (c .before .before .before .before .loop .inv) (ap locatedOf (sym (c .before .refusal .given .1)) ∙ c .before .before .before .frame-before .ensures)
 
-enum-known-tracepoint : tie.Need-enum-known-tracepoint Inv-loop μ-loop
-enum-known-tracepoint c = search needs
+enum-known-tag : tie.Need-enum-known-tag Inv-loop μ-loop
+enum-known-tag c = search needs
 
 returns-3 : tie.Need-returns-3 Inv-loop μ-loop
 returns-3 c =
     let t = c .before .before in
-    ap locatedOf (sym (t .tracepoint .given .1)) ∙ t .before .before .frame-before .ensures ∙ back-last (t .before .before .before .loop .inv) (omega arith)
+    ap locatedOf (sym (t .tag .given .1)) ∙ t .before .before .frame-before .ensures ∙ back-last (t .before .before .before .loop .inv) (omega arith)
 
 sub-left : tie.Need-sub-left Inv-loop μ-loop
 sub-left c = search needs
@@ -55,7 +63,7 @@ loop-less c = search needs
 loop-again : tie.Need-loop-again Inv-loop μ-loop
 loop-again c =
     let t = c .before .before in
-    back-again (t .before .before .before .loop .inv) (omega arith) (ap locatedOf (sym (t .tracepoint .given .1)) ∙ t .before .before .frame-before .ensures)
+    back-again (t .before .before .before .loop .inv) (omega arith) (ap locatedOf (sym (t .tag .given .1)) ∙ t .before .before .frame-before .ensures)
 
 pub locate-spec : {M : Type 1} → statement M
 locate-spec =
@@ -64,12 +72,13 @@ locate-spec =
     Inv-loop
     μ-loop
     is-unfit-requires
+    refusal-at-requires
     returns
     loop-holds
     frame-before-requires
     enum-known-refusal
     returns-2
-    enum-known-tracepoint
+    enum-known-tag
     returns-3
     sub-left
     loop-less

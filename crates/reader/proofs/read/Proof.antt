@@ -5,7 +5,9 @@ use lib.ListN.{length, take, drop, length-take}
 use denote.Ref.{now}
 use Rattle.reader.specs.Located.{frame, located}
 use Rattle.reader.specs.Answers.{locatedOf}
-use Rattle.reader.proofs.Locating.{located-inside, read-refused, read-frame}
+use Rattle.sizes.specs.Sizes.{buffer-most}
+use Rattle.reader.proofs.Locating.{located-inside}
+use Rattle.reader.proofs.Framing.{read-refused, read-frame}
 use borrow.Author.Needs.{needs}
 use Rattle.reader.proofs.read.Statement.{statement}
 use Rattle.reader.proofs.read.Tie as tie
@@ -16,13 +18,13 @@ use Rattle.reader.proofs.read_in.Reads as read-in-reads
 
 -- the frame that was located lies inside the buffer
 framed : (c : tie.After-known-told2)
-    → frame (c .before .tracepoint .given .0 .0) (c .before .tracepoint .given .0 .1 .0) (c .before .tracepoint .given .0 .1 .1 .0)
+    → frame (c .before .tag .given .0 .0) (c .before .tag .given .0 .1 .0) (c .before .tag .given .0 .1 .1 .0)
     ≡ located (now (c .before .before .before .before .before .args .buffer)) (c .before .before .before .before .before .args .used) (c .before .before .before .before .before .args .number)
-framed c = ap locatedOf (sym (c .before .tracepoint .given .1)) ∙ c .before .before .before .locate .ensures
+framed c = ap locatedOf (sym (c .before .tag .given .1)) ∙ c .before .before .before .locate .ensures
 
 inside : (c : tie.After-known-told2)
-    → (c .before .tracepoint .given .0 .1 .0 + c .before .tracepoint .given .0 .1 .1 .0 + 8 ≤ length (now (c .before .before .before .before .before .args .buffer)))
-    × (length (now (c .before .before .before .before .before .args .buffer)) ≤ 65536)
+    → (c .before .tag .given .0 .1 .0 + c .before .tag .given .0 .1 .1 .0 + 8 ≤ length (now (c .before .before .before .before .before .args .buffer)))
+    × (length (now (c .before .before .before .before .before .args .buffer)) ≤ buffer-most)
 inside c = located-inside _ _ _ (framed c)
 
 locate-requires : tie.Need-locate-requires
@@ -31,8 +33,8 @@ locate-requires c κs = search needs
 enum-known-refusal : tie.Need-enum-known-refusal
 enum-known-refusal c = search needs
 
-enum-known-tracepoint : tie.Need-enum-known-tracepoint
-enum-known-tracepoint c = search needs
+enum-known-tag : tie.Need-enum-known-tag
+enum-known-tag c = search needs
 
 add-end : tie.Need-add-end
 add-end c = record { fits = omega (arith, inside c) }
@@ -49,8 +51,8 @@ part-read-in-end c = omega (arith, inside c)
 read-in-requires : tie.Need-read-in-requires
 read-in-requires c κs =
     let p = c .before in
-    let s = p .before .tracepoint .given .0 .1 .0 in
-    let m = p .before .tracepoint .given .0 .1 .1 .0 in
+    let s = p .before .tag .given .0 .1 .0 in
+    let m = p .before .tag .given .0 .1 .1 .0 in
     omega (arith, inside p, length-take (s + m - s) (drop s (now (p .before .before .before .before .before .args .buffer))))
 
 returns : tie.Need-returns
@@ -65,7 +67,7 @@ read-spec =
     (tie.spec
     locate-requires
     enum-known-refusal
-    enum-known-tracepoint
+    enum-known-tag
     add-end
     sub-read-in
     part-read-in-start

@@ -4,13 +4,15 @@ use native.Mathlib.Omega.{arith}
 use lib.ListN.{length, drop}
 use denote.Ref.{now}
 use Rattle.encoding.proofs.Promises.{part-lent}
+use Rattle.sizes.specs.Sizes.{buffer-most}
 use Rattle.frames.specs.Record.{decode}
 use Rattle.frames.specs.Division.{brokenAt, divide}
-use Rattle.frames.specs.Reading.{Tells}
+use Rattle.frames.specs.joining.Answers.{Tells}
 use Rattle.frames.proofs.Promises.{broken-inside}
-use Rattle.reader.specs.Read.{readDivided}
-use Rattle.reader.specs.Answers.{splitOf}
+use Rattle.reader.specs.Read.{refusedRead, recordIn}
+use Rattle.reader.specs.joining.Splitting.{splitOf}
 use Rattle.reader.specs.declared.Split.the-variants.{Whole}
+use Rattle.reader.proofs.Framing.{framed-broken}
 use Rattle.reader.proofs.Splitting.{split-broken, is-there, none-read, one-read, memory-read, variable-read, header-inside}
 use borrow.Author.Needs.{needs}
 use Rattle.reader.proofs.read_in.Statement.{statement}
@@ -44,7 +46,7 @@ item c =
 -- a memory record's header ends within the buffer
 header : (c : tie.After-known-told3) →
     let e = c .before .before .before .before .before in
-    e .before .before .before .before .before .before .args .start + e .before .before .count .given .0 .1 .0 + 11 ≤ 65536
+    e .before .before .before .before .before .before .args .start + e .before .before .count .given .0 .1 .0 + 11 ≤ buffer-most
 header c =
     let e = c .before .before .before .before .before in
     let h = header-inside _ _ (whole (e .before)) (asked e) (item (c .before .before .before)) (c .before .address .given .1) in
@@ -56,14 +58,20 @@ divide-requires c κs = search needs
 enum-known-offset : tie.Need-enum-known-offset
 enum-known-offset c = search needs
 
-add-t14 : tie.Need-add-t14
-add-t14 c = record { fits = omega (arith, c .before .before .before .before .before .pre, broken-inside _ (cut c)) }
+add-broken : tie.Need-add-broken
+add-broken c = record { fits = omega (arith, c .before .before .before .before .before .pre, broken-inside _ (cut c)) }
+
+refusal-at-requires : tie.Need-refusal-at-requires
+refusal-at-requires c κs = search needs
 
 enum-known-count : tie.Need-enum-known-count
 enum-known-count c = search needs
 
+refusal-at-requires-2 : tie.Need-refusal-at-requires-2
+refusal-at-requires-2 c κs = search needs
+
 returns : tie.Need-returns
-returns c = none-read _ _ (whole (c .before)) (c .if1 .taken) _ _
+returns c = let t = c .before in ap refusedRead (c .refusal-at2 .ensures) ∙ none-read _ _ (whole (t .before)) (t .if1 .taken) _ _
 
 sub-read-record : tie.Need-sub-read-record
 sub-read-record c = omega (arith, one-read _ _ (whole (c .before)) (asked c) .inside)
@@ -83,17 +91,20 @@ read-record-requires c κs =
 enum-known-address : tie.Need-enum-known-address
 enum-known-address c = search needs
 
-add-t22 : tie.Need-add-t22
-add-t22 c = record { fits = omega (arith, header c) }
+add-header : tie.Need-add-header
+add-header c = record { fits = omega (arith, header c) }
 
-add-t23 : tie.Need-add-t23
-add-t23 c = record { fits = omega (arith, header c) }
+add-place : tie.Need-add-place
+add-place c = record { fits = omega (arith, header c) }
 
 enum-known-number : tie.Need-enum-known-number
 enum-known-number c = search needs
 
 returns-2 : tie.Need-returns-2
-returns-2 c = ap (readDivided _ _ _) (sym (cut c))
+returns-2 c =
+    let t = c .before in
+    let a = t .before .before .before .before .before .args in
+    ap refusedRead (c .refusal-at .ensures) ∙ ap (recordIn (a .index)) (framed-broken _ (cut t) (a .tag) (a .start))
 
 returns-3 : tie.Need-returns-3
 returns-3 c =
@@ -111,16 +122,18 @@ read-in-spec =
     (tie.spec
     divide-requires
     enum-known-offset
-    add-t14
+    add-broken
+    refusal-at-requires
     enum-known-count
+    refusal-at-requires-2
     returns
     sub-read-record
     part-read-record-start
     part-read-record-end
     read-record-requires
     enum-known-address
-    add-t22
-    add-t23
+    add-header
+    add-place
     enum-known-number
     returns-2
     returns-3

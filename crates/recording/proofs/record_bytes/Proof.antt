@@ -3,7 +3,7 @@ use native.Mathlib.Omega.{arith}
 use borrow.Author.Tests.{le-leb}
 use denote.Ref.{now}
 use Rattle.frames.specs.Record.{memory}
-use Rattle.recording.proofs.Logging.{one-full, one-in, one-wrote}
+use Rattle.recording.proofs.Appending.{one-full, one-in, one-wrote}
 use borrow.Author.Needs.{needs}
 use Rattle.recording.proofs.record_bytes.Statement.{statement}
 use Rattle.recording.proofs.record_bytes.Tie as tie

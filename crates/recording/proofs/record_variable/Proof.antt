@@ -1,7 +1,7 @@
 use mathlib.Core.Path.{refl}
 use native.Mathlib.Omega.{arith}
 use Rattle.frames.specs.Record.{variable}
-use Rattle.recording.proofs.Logging.{one-full, one-in, one-wrote}
+use Rattle.recording.proofs.Appending.{one-full, one-in, one-wrote}
 use borrow.Author.Needs.{needs}
 use Rattle.recording.proofs.record_variable.Statement.{statement}
 use Rattle.recording.proofs.record_variable.Tie as tie

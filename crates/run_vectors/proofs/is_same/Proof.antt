@@ -1,4 +1,5 @@
--- `run_vectors::is_same` meets its contract. The texts have one length. The measure is what is left of them. Assumes nothing.
+-- `run_vectors::is_same` meets its contract. The texts have one length. The measure is what is left of them. Assumes
+-- nothing.
 use borrow.Author.Needs.{needs}
 use Prim.Native.Nat.{_-_}
 use lib.ListN.{length}

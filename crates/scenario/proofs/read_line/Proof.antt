@@ -5,7 +5,7 @@ use Prim.Native.Nat.{ℕ, _-_}
 use mathlib.Core.Bool.{true}
 use mathlib.Core.Path.{_≡_, ap, _∙_}
 use lib.ListN.{take}
-use Rattle.scenario.specs.Items.{beforeComment, itemIn, itemOf}
+use Rattle.scenario.specs.Items.{columnsBeforeComment, itemIn, itemOf}
 use Rattle.scenario.proofs.read_line.Statement.{statement}
 use Rattle.scenario.proofs.read_line.Tie as tie
 
@@ -29,7 +29,7 @@ unfolding itemOf
 returns c =
     let line = now (c .before .before .before .before .args .line) in
     let b = c .before .before .before-comment in
-    let e : b .result - 0 ≡ beforeComment true line = omega (arith, b .ensures .0) in
+    let e : b .result - 0 ≡ columnsBeforeComment true line = omega (arith, b .ensures .0) in
     c .read-item .ensures ∙ ap (λ (n : ℕ). itemIn (take n line)) e
 
 pub read-line-spec : {M : Type 1} → statement M

@@ -1,3 +1,4 @@
+-- `scenario_run::run_with` meets its contract. Assumes nothing.
 use borrow.Author.Needs.{needs}
 use Rattle.scenario_run.proofs.run_with.Statement.{statement}
 use Rattle.scenario_run.proofs.run_with.Tie as tie

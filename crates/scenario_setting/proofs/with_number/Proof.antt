@@ -2,7 +2,7 @@ use borrow.Author.Needs.{needs}
 use Rattle.scenario_setting.proofs.with_number.Statement.{statement}
 use Rattle.scenario_setting.proofs.with_number.Tie as tie
 use mathlib.Core.Path.{refl}
-use Rattle.words.specs.Words.{placeFrom}
+use Rattle.line_words.specs.Words.{placeFrom}
 use Rattle.scenario.specs.Items.{keywords, keywordOf}
 use Rattle.scenario_setting.specs.Settings.{withNumber}
 use Rattle.scenario_setting.proofs.Words.{number-at, number-other}

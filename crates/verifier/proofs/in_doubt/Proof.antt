@@ -1,5 +1,5 @@
-use Rattle.encoding.proofs.Promises.{no-true}
-use Rattle.isa.specs.Rows.{rowsFrom, table}
+use Rattle.logic.proofs.Promises.{no-true}
+use Rattle.isa.specs.joining.Rows.{rowsFrom, table}
 use Rattle.isa.specs.Classes.{opcodes, classOf}
 use mathlib.Core.Path.{refl, sym}
 use Rattle.verifier.proofs.in_doubt.Statement.{statement}

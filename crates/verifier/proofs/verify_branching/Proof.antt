@@ -6,8 +6,8 @@ use Rattle.verifier.proofs.verify_branching.Tie as tie
 accept-branching-requires : tie.Need-accept-branching-requires
 accept-branching-requires c κs = search needs
 
-cast-t5 : tie.Need-cast-t5
-cast-t5 c =
+cast-height : tie.Need-cast-height
+cast-height c =
     let at-accept-branching = c .before .before .before in
     record { fits = omega (arith, at-accept-branching .accept-branching .ensures .low (omega arith)) }
 
@@ -24,4 +24,4 @@ returns-2 c = search needs
 
 pub verify-branching-spec : {M : Type 1} → statement M
 verify-branching-spec =
-    tie.close (tie.spec accept-branching-requires cast-t5 returns in-doubt-requires returns-2)
+    tie.close (tie.spec accept-branching-requires cast-height returns in-doubt-requires returns-2)

@@ -1,19 +1,22 @@
-use Rattle.verdict.proofs.Cases.{verdict-long}
-use Rattle.encoding.proofs.Promises.{no-true}
+use Rattle.verdict.proofs.Deciding.{verdict-long}
+use Rattle.logic.proofs.Promises.{no-true}
 use mathlib.Core.Path.{sym}
 use native.Mathlib.Omega.{arith}
 use borrow.Author.Needs.{needs}
 use Rattle.verifier.proofs.verify_noting.Statement.{statement}
 use Rattle.verifier.proofs.verify_noting.Tie as tie
 
+refusal-at-requires : tie.Need-refusal-at-requires
+refusal-at-requires c κs = search needs
+
 returns : tie.Need-returns
-returns c = (verdict-long _ (omega arith), λ z. no-true (sym z))
+returns c = (rw (c .refusal-at .ensures) (verdict-long _ (omega arith)), λ z. no-true (sym z))
 
 accept-straight-requires : tie.Need-accept-straight-requires
 accept-straight-requires c κs = search needs
 
-cast-t6 : tie.Need-cast-t6
-cast-t6 c =
+cast-height : tie.Need-cast-height
+cast-height c =
     let at-accept-straight = c .before .before .before in
     record { fits = omega (arith, at-accept-straight .accept-straight .ensures .low (omega arith)) }
 
@@ -40,9 +43,10 @@ pub verify-noting-spec : {M : Type 1} → statement M
 verify-noting-spec =
     tie.close
     (tie.spec
+    refusal-at-requires
     returns
     accept-straight-requires
-    cast-t6
+    cast-height
     returns-2
     in-doubt-requires
     returns-3

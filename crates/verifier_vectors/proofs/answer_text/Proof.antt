@@ -1,4 +1,5 @@
--- `verifier_vectors::answer_text` meets its contract: what `decode` ensures bounds the bytes that are lent on. Assumes nothing.
+-- `verifier_vectors::answer_text` meets its contract: what `decode` ensures bounds the bytes that are lent on. Assumes
+-- nothing.
 use native.Mathlib.Omega.{arith}
 use borrow.Author.Needs.{needs}
 use Rattle.verifier_vectors.proofs.answer_text.Statement.{statement}

@@ -1,4 +1,5 @@
--- `verifier_vectors::main` is safe: both buffers keep their lengths. The measure is the count of turns. Assumes nothing.
+-- `verifier_vectors::main` is safe: both buffers keep their lengths. The measure is the count of turns. Assumes
+-- nothing.
 use borrow.Author.Needs.{needs}
 use mathlib.Core.Path.{_≡_}
 use lib.ListN.{length}

@@ -4,14 +4,14 @@ use Prim.Native.Nat.{ℕ}
 use borrow.Author.Needs.{needs}
 use Rattle.reader.specs.Located.{placeAfter}
 use Rattle.reader.specs.Answers.{locatedOf}
-use Rattle.reader.specs.declared.Place.{Place}
+use Rattle.reader.specs.declared.FrameAnswer.{FrameAnswer}
 use Rattle.walker.proofs.place_after.Statement.{statement}
 use Rattle.walker.proofs.place_after.Tie as tie
 use Rattle.walker.proofs.place_after.Reads as reads
 use Rattle.walker.proofs.place_after.Lts as lts
 
 -- the place after what was found is the place after the arm's case of it
-by-case : (place : ℕ) {found arm : Place} → found ≡ arm → placeAfter place (locatedOf arm) ≡ placeAfter place (locatedOf found)
+by-case : (place : ℕ) {found arm : FrameAnswer} → found ≡ arm → placeAfter place (locatedOf arm) ≡ placeAfter place (locatedOf found)
 by-case place e = ap (λ f. placeAfter place (locatedOf f)) (sym e)
 
 enum-known-found : tie.Need-enum-known-found

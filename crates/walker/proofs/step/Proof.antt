@@ -1,6 +1,7 @@
--- `step` by a walk of its code. The borrow of the walker is opened; `reader::walk` is called with the slice and the number that lie there, then
--- `place_after` with the number and the answer; what it returns is stored, and the borrow is closed at the walker with that number.
--- Of both callees only their contracts are used. A walker can be copied: what the slice owns goes to the callee, and what the walker owns is kept.
+-- `step` by a walk of its code. The borrow of the walker is opened; `reader::walk` is called with the slice and the
+-- number that lie there, then `place_after` with the number and the answer; what it returns is stored, and the borrow
+-- is closed at the walker with that number. Of both callees only their contracts are used. A walker can be copied: what
+-- the slice owns goes to the callee, and what the walker owns is kept.
 use mathlib.Core.Path.{_≡_, refl, ap, _∙_}
 use Prim.Native.Nat.{ℕ, _<_, _^_}
 use mathlib.Core.List.{List, [], _∷_}
@@ -47,9 +48,9 @@ use denote.Triple.Table.{entered, cited}
 use denote.Triple.Walked.{says, Stays, stay-ref, walkOf, goes-ref, Walks, ends-at, walked, walk-meets}
 use Rattle.reader.specs.Located.{placeAfter, walked as walkedTo}
 use Rattle.reader.specs.Answers.{locatedOf}
-use Rattle.reader.specs.declared.Place.{Place}
-use Rattle.reader.proofs.Place as P
-use Rattle.reader.proofs.Place.Laws as P′
+use Rattle.reader.specs.declared.FrameAnswer.{FrameAnswer}
+use Rattle.reader.proofs.FrameAnswer as P
+use Rattle.reader.proofs.FrameAnswer.Laws as P′
 use Rattle.reader.proofs.walk as walk′
 use Rattle.reader.proofs.walk.Symbol as walk-def
 use Rattle.reader.proofs.walk.Symbol.{name as #reader·walk}
@@ -135,32 +136,32 @@ module _ {M : Type 1} (𝓤 : URA M) (H : Heap 𝓤) (A : Atoms 𝓤) (W : Given
       -- [what the fields own; what the walker owns; the token]
       move ! (2 ∷ 0 ∷ []) $ use2 W (raw (Walk 𝓤 H A at-mem run .pre to-walk)) asked $ frame ! $ done !)
 
-  abbrev Walked : Place → Type 0
+  abbrev Walked : FrameAnswer → Type 0
   Walked r = locatedOf r ≡ walkedTo (now (h .buffer)) (h .place)
 
-  walk-said : (r : Place) → ent 𝓤 (ensured 𝓤 H A walk′.ended (walk′.clauses 𝓤 H A at-mem run) (κ′, tt) (h .buffer, (h .place, tt)) tt r) (fact 𝓤 (Walked r))
+  walk-said : (r : FrameAnswer) → ent 𝓤 (ensured 𝓤 H A walk′.ended (walk′.clauses 𝓤 H A at-mem run) (κ′, tt) (h .buffer, (h .place, tt)) tt r) (fact 𝓤 (Walked r))
   walk-said r = exE 𝓤 _ (λ ws. snd∗ 𝓤 (sem 𝓤 H A (lasts walk′.ended (κ′, tt) (h .buffer, (h .place, tt)) ws)) (fact 𝓤 (Walked r)))
 
   -- ---- the call of `place_after`, at the answer r with the machine value u
-  abbrev to-after : Place → Val → After 𝓤 H A at-mem run .Ghost
+  abbrev to-after : FrameAnswer → Val → After 𝓤 H A at-mem run .Ghost
   to-after r u = ((tt, tt, tt, (h .place, (r, tt)), (vint w64 (h .place) ∷ [], (u ∷ [], tt))), tt)
 
-  goes-after : (r : Place) (u : Val) → h .place < 2 ^ 64 → ent 𝓤 (sem 𝓤 H A (P.the-row .own r (u ∷ []))) (After 𝓤 H A at-mem run .pre (to-after r u))
+  goes-after : (r : FrameAnswer) (u : Val) → h .place < 2 ^ 64 → ent 𝓤 (sem 𝓤 H A (P.the-row .own r (u ∷ []))) (After 𝓤 H A at-mem run .pre (to-after r u))
   goes-after r u fits =
       qed W (‵ (P.the-row .own r (u ∷ [])) ∷ []) ∵ nothing ! $ move ! (1 ∷ 0 ∷ []) $ fjoin ! $ owned ! usize (Is usize) (uint-makes 𝓤 H A W w64) (h .place) _ (refl, fits) $ fjoin ! $
       nothing ! $ join ! $ nothing ! $ move ! (1 ∷ 0 ∷ []) $ frame ! $ done !
 
-  abbrev Next : Place → ℕ → Type 0
+  abbrev Next : FrameAnswer → ℕ → Type 0
   Next r n = n ≡ placeAfter (h .place) (locatedOf r)
 
-  after-said : (r : Place) (n : ℕ) → ent 𝓤 (ensured 𝓤 H A after.ended (after.clauses 𝓤 H A at-mem run) tt (h .place, (r, tt)) tt n) (fact 𝓤 (Next r n))
+  after-said : (r : FrameAnswer) (n : ℕ) → ent 𝓤 (ensured 𝓤 H A after.ended (after.clauses 𝓤 H A at-mem run) tt (h .place, (r, tt)) tt n) (fact 𝓤 (Next r n))
   after-said r n = exE 𝓤 _ (λ ws. snd∗ 𝓤 (sem 𝓤 H A (lasts after.ended tt (h .place, (r, tt)) ws)) (fact 𝓤 (Next r n)))
 
   -- ---- the end: what the walker owns at its new place, and what is left at exit
   again : (n : ℕ) → n < 2 ^ 64 → ent 𝓤 (sem 𝓤 H A Own) (sem 𝓤 H A (B .own (to n) (T′.lowered (to n) ∷ [])))
   again n fits = qed W (‵ Own ∷ []) ∵ owned ! usize (Is usize) (uint-makes 𝓤 H A W w64) n _ (refl, fits) $ move ! (1 ∷ 0 ∷ []) $ by ! (own-put 𝓤 H A W D L 1 fields n mach)
 
-  exits : (r : Place) (u : Val) (n : ℕ) → Walked r → Next r n
+  exits : (r : FrameAnswer) (u : Val) (n : ℕ) → Walked r → Next r n
       → ent 𝓤 (⋆ 𝓤 H A (‵ (fobs γ (B .coded .code (to n))) ∷ ‵ (fbor κ (Body (mem B) b o γ)) ∷ ‵ (flft κ q) ∷ ‵ (P.the-row .own r (u ∷ [])) ∷ (‵ (flft κ′ q′) ⊛ ‵ ftrue) ∷ [])) (Post u)
   exits r u n e e′ =
       qed W (‵ (fobs γ (B .coded .code (to n))) ∷ ‵ (fbor κ (Body (mem B) b o γ)) ∷ ‵ (flft κ q) ∷ ‵ (P.the-row .own r (u ∷ [])) ∷ (‵ (flft κ′ q′) ⊛ ‵ ftrue) ∷ []) ∵
@@ -177,15 +178,17 @@ module _ {M : Type 1} (𝓤 : URA M) (H : Heap 𝓤) (A : Atoms 𝓤) (W : Given
         move ! (13 ∷ []) $ fsplit ! $ move ! (1 ∷ []) $ drop ! $ fsplit3 ! $ drop ! $ move ! (14 ∷ []) $ split ! $ move ! (2 ∷ 3 ∷ 0 ∷ []) $
         opens ! tt B {h = h} b o (λ vs. spelt ! B (Is B) (shows 𝓤 H A B) (LL.vals D L) (LL.tells D L) fullShare h vs b o $
         use1 W (‵ (fat fullShare (T′.mir erased) b o mach)) (W .laws .raw-at fullShare (T′.mir erased) b o mach) $ move ! (1 ∷ []) $ peeks ! B (Is B) (shows 𝓤 H A B) h (mach ∷ []) (λ was. move ! (1 ∷ 0 ∷ []) $
-        -- [the walker's cell; what it owns; the open borrow; obs; auth; 'a's token; _5; …; _4; …; _3; …; _2; …; _1; …; _0; …]
+        -- [the walker's cell; what it owns; the open borrow; obs; auth; 'a's token; _5; …; _4; …; _3; …; _2; …; _1; …;
+        -- _0; …]
         let typed = LL.lawful D L 𝓤 H A W .typed h _ was .0 in
         assigns ! (of-opd ! (load ! (from ! (hop ! (look ! 14 refl) (fld ! refl (stop !)))) (look-in ! 0 (sub ! 0 refl (whole !))))) (from ! (stop !)) (init ! 10 refl (tt, typed .1 .0)) $
         assigns ! (of-opd ! (load ! (from ! (hop ! (look ! 14 refl) (fld ! refl (stop !)))) (look-in ! 0 (sub ! 1 refl (whole !))))) (from ! (stop !)) (init ! 8 refl (tt, typed .1 .1 .0)) $
         move ! (1 ∷ 5 ∷ []) $ use2 W (raw (Walk 𝓤 H A at-mem run .pre to-walk) ⊛ ‵ Own) goes-walk $ split ! $
         calls-at ! fm (Walk 𝓤 H A at-mem run) known-walk to-walk (and-then ! (load ! (from ! (stop !)) (look ! 10 refl)) (and-then ! (load ! (from ! (stop !)) (look ! 8 refl)) (no-more !))) (λ u.
-        use1 W (later (some (λ (r : Place). ((‵ (flft κ′ q′) ⊛ ‵ ftrue) ⊛ ‵ (P.the-row .own r (u ∷ []))) ⊛ raw (ensured 𝓤 H A walk′.ended (walk′.clauses 𝓤 H A at-mem run) (κ′, tt) (h .buffer, (h .place, tt)) tt r)))) (id⊢ 𝓤 _) $ await ! tt $ pick ! (λ r.
+        use1 W (later (some (λ (r : FrameAnswer). ((‵ (flft κ′ q′) ⊛ ‵ ftrue) ⊛ ‵ (P.the-row .own r (u ∷ []))) ⊛ raw (ensured 𝓤 H A walk′.ended (walk′.clauses 𝓤 H A at-mem run) (κ′, tt) (h .buffer, (h .place, tt)) tt r)))) (id⊢ 𝓤 _) $ await ! tt $ pick ! (λ r.
         split ! $ move ! (1 ∷ []) $ use1 W (raw (fact 𝓤 (Walked r))) (walk-said r) $ heard ! (Walked r) (λ e. split ! $ move ! (1 ∷ []) $
-        -- [the answer; 'a's token; what the walker owns; its cell; the open borrow; obs; auth; _5; …; _4; …; _3; …; _2; …; _1; …; _0; …]
+        -- [the answer; 'a's token; what the walker owns; its cell; the open borrow; obs; auth; _5; …; _4; …; _3; …; _2;
+        -- …; _1; …; _0; …]
         peeks ! P.the-row (Is P.the-row) (shows 𝓤 H A P.the-row) r (u ∷ []) (λ is.
         land ! (from ! (stop !)) (init ! 13 refl (EL.lawful P.the-type P′.the-laws 𝓤 H A W tt .typed r _ is .0)) $
         assigns ! (of-opd ! (load ! (from ! (hop ! (look ! 15 refl) (fld ! refl (stop !)))) (look-in ! 3 (sub ! 1 refl (whole !))))) (from ! (stop !)) (init ! 7 refl (tt, typed .1 .1 .0)) $

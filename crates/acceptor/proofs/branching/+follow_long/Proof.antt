@@ -1,7 +1,7 @@
 use native.Mathlib.Omega.{arith}
 use borrow.Author.Needs.{needs}
 use lib.ListN.{length}
-use Rattle.passes.proofs.Measuring.{unmeasured-new}
+use Rattle.passes.proofs.Promises.{unmeasured-new}
 use Rattle.acceptor.proofs.AlongJumps.{not-concluded}
 use Prim.Native.Nat.{ℕ, _<_}
 use borrow.Fn.Kinds.{In}

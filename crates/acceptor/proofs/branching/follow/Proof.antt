@@ -1,5 +1,5 @@
 use borrow.Author.Needs.{needs}
-use Rattle.acceptor.specs.CodeWithJumps.{Branching}
+use Rattle.acceptor.specs.joining.CodeWithJumps.{Branching}
 use lib.ListN.{length}
 use Prim.Native.Nat.{_-_, _<_}
 use Rattle.acceptor.proofs.AlongJumps.{branching-start, not-concluded}

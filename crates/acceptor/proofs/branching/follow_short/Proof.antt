@@ -1,5 +1,5 @@
 use native.Mathlib.Omega.{arith}
-use Rattle.passes.proofs.Measuring.{unmeasured-new}
+use Rattle.passes.proofs.Promises.{unmeasured-new}
 use borrow.Author.Needs.{needs}
 use Rattle.acceptor.proofs.branching.follow_short.Statement.{statement}
 use Rattle.acceptor.proofs.branching.follow_short.Tie as tie

@@ -1,5 +1,5 @@
 use mathlib.Core.Path.{sym}
-use Rattle.encoding.proofs.Promises.{no-true}
+use Rattle.logic.proofs.Promises.{no-true}
 use native.Mathlib.Omega.{arith}
 use Rattle.acceptor.proofs.AlongJumps.{turns-doubt}
 use borrow.Author.Needs.{needs}

@@ -3,7 +3,7 @@ use Prim.Native.Nat.{_+_, _-_, _≤_, _<_}
 use mathlib.Core.Logic.{inl, inr, ⊎-elim}
 use lib.ListN.{length}
 use borrow.Author.Needs.{needs}
-use Rattle.acceptor.specs.StraightCode.{Following}
+use Rattle.acceptor.specs.joining.StraightCode.{Following}
 use Rattle.acceptor.proofs.AlongStraight.{following-start, following-on, goes-on, followed-stop, followed-doubt}
 use Rattle.acceptor.proofs.straight.follow.Statement.{statement}
 use Rattle.acceptor.proofs.straight.follow.Tie as tie

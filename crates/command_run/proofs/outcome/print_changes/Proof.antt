@@ -1,14 +1,15 @@
 -- The measure is what is left of the variables. Assumes nothing.
 use borrow.Author.Needs.{needs}
 use Prim.Native.Nat.{_≤_, _-_}
+use Rattle.sizes.specs.Sizes.{variable-count}
 use Rattle.command_run.proofs.outcome.print_changes.Statement.{statement}
 use Rattle.command_run.proofs.outcome.print_changes.Tie as tie
 
 abbrev Inv-loop : tie.InvT-loop
-Inv-loop before after i₀ i = i ≤ 64
+Inv-loop before after i₀ i = i ≤ variable-count
 
 abbrev μ-loop : tie.MeasureT-loop
-μ-loop before after i₀ i = 64 - i
+μ-loop before after i₀ i = variable-count - i
 
 loop-holds : tie.Need-loop-holds Inv-loop μ-loop
 loop-holds c = search needs

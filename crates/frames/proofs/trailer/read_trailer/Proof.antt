@@ -5,7 +5,7 @@ use mathlib.Core.Path.{_≡_}
 use native.Mathlib.Omega.{arith}
 use denote.Ref.{now}
 use Rattle.frames.specs.Record.{field}
-use Rattle.frames.proofs.Reading.{no-trailer, a-trailer}
+use Rattle.frames.proofs.Closing.{no-trailer, a-trailer}
 use borrow.Author.Needs.{needs}
 use Rattle.frames.proofs.trailer.read_trailer.Statement.{statement}
 use Rattle.frames.proofs.trailer.read_trailer.Tie as tie
@@ -40,6 +40,13 @@ part-little-endian-end c = search needs
 little-endian-requires : tie.Need-little-endian-requires
 little-endian-requires c κs = search needs
 
+cast-tracepoint : tie.Need-cast-tracepoint
+cast-tracepoint c =
+    let l = now (c .before .before .before .before .before .before .before .before .args .bytes) in
+    let low : c .little-endian .result < 256 ^ length (take 2 (drop 2 l)) = c .little-endian .ensures .1 in
+    let long = length-take-le 2 (drop 2 l) (omega (arith, length-drop 2 l)) in
+    record { fits = omega (arith, rw long at low) }
+
 sub-little-endian-2 : tie.Need-sub-little-endian-2
 sub-little-endian-2 c = search needs
 
@@ -51,14 +58,6 @@ part-little-endian-end-2 c = search needs
 
 little-endian-requires-2 : tie.Need-little-endian-requires-2
 little-endian-requires-2 c κs = search needs
-
-cast-t15 : tie.Need-cast-t15
-cast-t15 c =
-    let p = c .before .before in
-    let l = now (c .before .before .before .before .before .before .before .before .before .before .args .bytes) in
-    let low : p .little-endian .result < 256 ^ length (take 2 (drop 2 l)) = p .little-endian .ensures .1 in
-    let long = length-take-le 2 (drop 2 l) (omega (arith, length-drop 2 l)) in
-    record { fits = omega (arith, rw long at low) }
 
 returns-4 : tie.Need-returns-4
 returns-4 c =
@@ -81,9 +80,9 @@ read-trailer-spec =
     part-little-endian-start
     part-little-endian-end
     little-endian-requires
+    cast-tracepoint
     sub-little-endian-2
     part-little-endian-start-2
     part-little-endian-end-2
     little-endian-requires-2
-    cast-t15
     returns-4)

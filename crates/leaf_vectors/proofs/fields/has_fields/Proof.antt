@@ -1,4 +1,5 @@
--- `leaf_vectors::fields::has_fields` meets its contract. The measure is the number that holds the kinds that are left. Assumes nothing.
+-- `leaf_vectors::fields::has_fields` meets its contract. The measure is the number that holds the kinds that are left.
+-- Assumes nothing.
 use borrow.Author.Needs.{needs}
 use Rattle.leaf_vectors.proofs.fields.has_fields.Statement.{statement}
 use Rattle.leaf_vectors.proofs.fields.has_fields.Tie as tie

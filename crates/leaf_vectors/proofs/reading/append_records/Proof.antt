@@ -1,5 +1,5 @@
--- `leaf_vectors::reading::append_records` meets its contract: the count stays one of the buffer, which keeps its length. The measure is the number of
--- records left. Assumes nothing.
+-- `leaf_vectors::reading::append_records` meets its contract: the count stays one of the buffer, which keeps its
+-- length. The measure is the number of records left. Assumes nothing.
 use borrow.Author.Needs.{needs}
 use Prim.Native.Nat.{_-_}
 use mathlib.Core.Path.{_≡_}

@@ -1,5 +1,5 @@
--- `leaf_vectors::reading::repeat` is safe: the index stays at least the count that is taken off it. The measure is what is left of the bytes.
--- Assumes nothing.
+-- `leaf_vectors::reading::repeat` is safe: the index stays at least the count that is taken off it. The measure is what
+-- is left of the bytes. Assumes nothing.
 use borrow.Author.Needs.{needs}
 use Prim.Native.Nat.{_-_, _≤_}
 use mathlib.Core.Path.{_≡_}

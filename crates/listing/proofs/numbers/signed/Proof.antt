@@ -2,7 +2,7 @@ use borrow.Author.Needs.{needs}
 use denote.Ref.{now}
 use mathlib.Core.Path.{_∙_, ap}
 use Rattle.encoding.proofs.Promises.{part-lent}
-use Rattle.words.specs.Numbers.{numberIn}
+use Rattle.line_words.specs.Numbers.{numberIn}
 use Rattle.listing.specs.Numbers.{negated}
 use Rattle.listing.proofs.Numbering.{signed-minus, signed-plain}
 use Rattle.listing.proofs.numbers.signed.Statement.{statement}

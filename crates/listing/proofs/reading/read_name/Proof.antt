@@ -1,7 +1,7 @@
 use borrow.Author.Needs.{needs}
+use native.Mathlib.Omega.{arith}
 use mathlib.Core.Path.{_∙_}
 use Rattle.listing.proofs.Lining.{name-none, name-unknown, name-alone, name-operand, width-of}
-use native.Mathlib.Omega.{arith}
 use Rattle.listing.proofs.reading.read_name.Statement.{statement}
 use Rattle.listing.proofs.reading.read_name.Tie as tie
 
@@ -23,14 +23,18 @@ part-opcode-of-end c = search needs
 opcode-of-requires : tie.Need-opcode-of-requires
 opcode-of-requires c κs = search needs
 
-returns-2 : tie.Need-returns-2
-returns-2 c = name-unknown _ _ (c .before .before .before .before .next-word .ensures) (c .before .before .before .if1 .left) _ (c .before .opcode-of .ensures .0) (c .if2 .taken)
-
 cast-opcode : tie.Need-cast-opcode
 cast-opcode c = search needs
 
 look-up-requires : tie.Need-look-up-requires
 look-up-requires c κs = search needs
+
+returns-2 : tie.Need-returns-2
+returns-2 c =
+    let k = c .before .before .look-up .ensures .kind-is in
+    let o = c .before .before .before in
+    let w = o .before .before in
+    name-unknown _ _ (w .before .next-word .ensures) (w .if1 .left) _ (o .opcode-of .ensures .0) (omega (arith, k, c .if2 .taken))
 
 cast-count : tie.Need-cast-count
 cast-count c = search needs
@@ -39,13 +43,29 @@ ends-requires : tie.Need-ends-requires
 ends-requires c κs = search needs
 
 returns-3 : tie.Need-returns-3
-returns-3 c = c .ends .ensures ∙ name-alone _ _ (c .before .before .before .before .before .before .before .before .next-word .ensures) (c .before .before .before .before .before .before .before .if1 .left) _ (c .before .before .before .before .before .opcode-of .ensures .0) (c .before .before .before .before .if2 .left) _ (c .before .before .before .look-up .ensures .operands-is) (c .before .if3 .taken)
+returns-3 c =
+    let k = c .before .before .before .before .before .look-up .ensures in
+    let o = c .before .before .before .before .before .before in
+    let w = o .before .before in
+    let i = c .before .before .before .if2 .left in
+    c .ends .ensures
+    ∙ name-alone _ _ (w .before .next-word .ensures) (w .if1 .left) _ (o .opcode-of .ensures .0) (omega (arith, k .kind-is, i)) _ (k .operands-is) (c .before .if3 .taken)
 
 read-operand-requires : tie.Need-read-operand-requires
-read-operand-requires c κs = (c .before .before .before .before .before .before .before .next-word .ensures .within, width-of (c .before .before .before .before .opcode-of .result) _ (omega (arith, c .before .before .before .before .opcode-of .ensures .1, c .before .before .before .if2 .left)) (c .before .before .look-up .ensures .operands-is) (c .if3 .left))
+read-operand-requires c κs =
+    let k = c .before .before .before .before .look-up .ensures in
+    let o = c .before .before .before .before .before in
+    let w = o .before .before .before .next-word .ensures .within in
+    (w, width-of (o .opcode-of .result) _ (omega (arith, k .kind-is, c .before .before .if2 .left)) (k .operands-is) (c .if3 .left))
 
 returns-4 : tie.Need-returns-4
-returns-4 c = c .read-operand .ensures ∙ name-operand _ _ (c .before .before .before .before .before .before .before .before .next-word .ensures) (c .before .before .before .before .before .before .before .if1 .left) _ (c .before .before .before .before .before .opcode-of .ensures .0) (c .before .before .before .before .if2 .left) _ (c .before .before .before .look-up .ensures .operands-is) (c .before .if3 .left)
+returns-4 c =
+    let k = c .before .before .before .before .before .look-up .ensures in
+    let o = c .before .before .before .before .before .before in
+    let w = o .before .before in
+    let i = c .before .before .before .if2 .left in
+    c .read-operand .ensures
+    ∙ name-operand _ _ (w .before .next-word .ensures) (w .if1 .left) _ (o .opcode-of .ensures .0) (omega (arith, k .kind-is, i)) _ (k .operands-is) (c .before .if3 .left)
 
 pub read-name-spec : {M : Type 1} → statement M
 read-name-spec =
@@ -57,9 +77,9 @@ read-name-spec =
     part-opcode-of-start
     part-opcode-of-end
     opcode-of-requires
-    returns-2
     cast-opcode
     look-up-requires
+    returns-2
     cast-count
     ends-requires
     returns-3

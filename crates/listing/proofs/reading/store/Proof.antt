@@ -1,19 +1,19 @@
 use borrow.Author.Needs.{needs}
 use denote.Ref.{now}
 use lib.ListN.{length-set}
-use Rattle.listing.proofs.Lining.{no-room, stored, stored-length}
+use Rattle.listing.proofs.Lining.{buffer-full, stored, stored-length}
 use native.Mathlib.Omega.{arith}
 use Rattle.listing.proofs.reading.store.Statement.{statement}
 use Rattle.listing.proofs.reading.store.Tie as tie
 
 returns : tie.Need-returns
-returns c = no-room _ _ _ _ _ (omega (arith, c .if1 .taken))
+returns c = buffer-full _ _ _ _ _ (omega (arith, c .if1 .taken))
 
 sub-if2 : tie.Need-sub-if2
 sub-if2 c = search needs
 
 returns-2 : tie.Need-returns-2
-returns-2 c = no-room _ _ _ _ _ (omega (arith, c .if2 .taken))
+returns-2 c = buffer-full _ _ _ _ _ (omega (arith, c .if2 .taken))
 
 slice-write-out : tie.Need-slice-write-out
 slice-write-out c = search needs

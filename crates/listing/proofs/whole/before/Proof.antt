@@ -4,7 +4,7 @@ use Prim.Native.Nat.{_-_}
 use mathlib.Core.Bool.{not}
 use mathlib.Core.Path.{ap}
 use lib.ListN.{length}
-use Rattle.words.proofs.Promises.{Counting, counting-start, counting-more, counting-stop, counting-end}
+use Rattle.line_words.proofs.Promises.{Counting, counting-start, counting-more, counting-stop, counting-end}
 use Rattle.listing.specs.Meant.{isNot}
 use Rattle.listing.proofs.whole.before.Statement.{statement}
 use Rattle.listing.proofs.whole.before.Tie as tie

@@ -3,7 +3,7 @@ use denote.Ref.{now}
 use mathlib.Core.Path.{sym, _∙_}
 use Rattle.encoding.proofs.Promises.{written-nothing}
 use Rattle.listing.specs.Meant.{meant}
-use Rattle.listing.specs.declared.reading.Line.the-variants.{Nothing}
+use Rattle.listing.specs.declared.reading.ListingLine.the-variants.{Nothing}
 use Rattle.listing.proofs.Lining.{answer-by, left-by, read-within}
 use Rattle.listing.proofs.Dividing.{meant-nothing, meant-line}
 use Rattle.listing.proofs.whole.take_line.Statement.{statement}

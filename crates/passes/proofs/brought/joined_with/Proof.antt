@@ -1,6 +1,6 @@
 use mathlib.Core.Path.{sym}
 use native.Mathlib.Omega.{arith}
-use Rattle.verdict.proofs.Along.{joined-first, joined-same, joined-differing}
+use Rattle.verdict.proofs.Deciding.{joined-first, joined-same, joined-differing}
 use Rattle.passes.proofs.brought.joined_with.Statement.{statement}
 use Rattle.passes.proofs.brought.joined_with.Tie as tie
 

@@ -1,6 +1,6 @@
 use native.Mathlib.Omega.{arith}
 use lib.ListN.{getD}
-use Rattle.verdict.proofs.Faults.{f-ext-some, f-ext-zero, f-plain, f-unknown, f-unsupported, f-variable-high, f-variable-low}
+use Rattle.verdict.proofs.Deciding.{f-ext-some, f-ext-zero, f-plain, f-unknown, f-unsupported, f-variable-high, f-variable-low}
 use Rattle.isa.proofs.Promises.{ext-operands, variable-operands}
 use Rattle.passes.proofs.pass1.fault_at.Statement.{statement}
 use Rattle.passes.proofs.pass1.fault_at.Tie as tie

@@ -1,5 +1,5 @@
 use native.Mathlib.Omega.{arith}
-use Rattle.verdict.proofs.Faults.{f-plain}
+use Rattle.verdict.proofs.Deciding.{f-plain}
 use Rattle.passes.proofs.Scanning.{notes-low}
 use borrow.Author.Needs.{needs}
 use Rattle.passes.proofs.pass1.look.Statement.{statement}

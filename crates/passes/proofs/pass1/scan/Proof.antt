@@ -2,7 +2,7 @@ use native.Mathlib.Omega.{arith}
 use Prim.Native.Nat.{_-_}
 use mathlib.Core.Path.{_≡_, refl}
 use lib.ListN.{length}
-use Rattle.verdict.proofs.Faults.{f-high, f-short}
+use Rattle.verdict.proofs.Deciding.{f-high, f-short}
 use Rattle.passes.proofs.Scanning.{Scanning, scanning-start, scanning-turn, scanning-fault, scanning-end, note-room}
 use borrow.Author.Needs.{needs}
 use Rattle.passes.proofs.pass1.scan.Statement.{statement}
@@ -21,6 +21,9 @@ loop-holds c = (scanning-start _ _ _ (c .before .before .before .pre .1 .1), ref
 shared-slice-read-opcode : tie.Need-shared-slice-read-opcode Inv-loop μ-loop
 shared-slice-read-opcode c = search needs
 
+refusal-at-requires : tie.Need-refusal-at-requires Inv-loop μ-loop
+refusal-at-requires c κs = search needs
+
 same-length : tie.Need-same-length Inv-loop μ-loop
 same-length c = search needs
 
@@ -29,7 +32,8 @@ same-length-2 c = search needs
 
 returns : tie.Need-returns Inv-loop μ-loop
 returns c =
-    scanning-fault (c .before .before .before .loop .inv .0) 2 (search needs) (f-high _ _ (omega arith)) (omega arith)
+    rw (c .refusal-at .ensures)
+    (scanning-fault (c .before .before .before .before .loop .inv .0) 2 (search needs) (f-high _ _ (omega arith)) (omega arith))
 
 add-next : tie.Need-add-next Inv-loop μ-loop
 add-next c = search needs
@@ -43,6 +47,9 @@ cast-next c = search needs
 add-next-2 : tie.Need-add-next-2 Inv-loop μ-loop
 add-next-2 c = search needs
 
+refusal-at-requires-2 : tie.Need-refusal-at-requires-2 Inv-loop μ-loop
+refusal-at-requires-2 c κs = search needs
+
 same-length-3 : tie.Need-same-length-3 Inv-loop μ-loop
 same-length-3 c = search needs
 
@@ -51,9 +58,10 @@ same-length-4 c = search needs
 
 returns-2 : tie.Need-returns-2 Inv-loop μ-loop
 returns-2 c =
-    let at-column = c .before in
+    let at-column = c .before .before in
     let at-loop = at-column .before .before .before .before in
-    scanning-fault (at-loop .loop .inv .0) 4 (search needs) (f-short _ _ (search needs) (omega (arith, at-column .column .ensures))) (omega arith)
+    rw (c .refusal-at2 .ensures)
+    (scanning-fault (at-loop .loop .inv .0) 4 (search needs) (f-short _ _ (search needs) (omega (arith, at-column .column .ensures))) (omega arith))
 
 column-requires-2 : tie.Need-column-requires-2 Inv-loop μ-loop
 column-requires-2 c κs = search needs
@@ -65,6 +73,9 @@ look-requires c κs =
     let at-loop = at-column .before .before .before .before in
     let s = at-loop .loop .inv .0 in ((omega arith, omega (arith, s .few-jumps, s .within), omega (arith, at-column .column .ensures), at-column2 .column2 .ensures), λ p q. note-room s (omega (arith, at-column .column .ensures)) (omega (arith, at-column2 .column2 .ensures)) (omega (arith, at-column2 .column2 .ensures)))
 
+refusal-at-requires-3 : tie.Need-refusal-at-requires-3 Inv-loop μ-loop
+refusal-at-requires-3 c κs = search needs
+
 same-length-5 : tie.Need-same-length-5 Inv-loop μ-loop
 same-length-5 c = search needs
 
@@ -73,9 +84,9 @@ same-length-6 c = search needs
 
 returns-3 : tie.Need-returns-3 Inv-loop μ-loop
 returns-3 c =
-    let at-look = c .before .before .before .before in
+    let at-look = c .before .before .before .before .before in
     let at-loop = at-look .before .before .before .before .before .before .before .before in
-    scanning-fault (at-loop .loop .inv .0) _ (search needs) (at-look .look .ensures .0) (c .if3 .taken)
+    rw (c .refusal-at3 .ensures) (scanning-fault (at-loop .loop .inv .0) _ (search needs) (at-look .look .ensures .0) (c .before .if3 .taken))
 
 slice-write-marks : tie.Need-slice-write-marks Inv-loop μ-loop
 slice-write-marks c =
@@ -112,6 +123,7 @@ scan-spec =
     μ-loop
     loop-holds
     shared-slice-read-opcode
+    refusal-at-requires
     same-length
     same-length-2
     returns
@@ -119,11 +131,13 @@ scan-spec =
     column-requires
     cast-next
     add-next-2
+    refusal-at-requires-2
     same-length-3
     same-length-4
     returns-2
     column-requires-2
     look-requires
+    refusal-at-requires-3
     same-length-5
     same-length-6
     returns-3

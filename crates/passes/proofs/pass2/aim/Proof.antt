@@ -33,13 +33,17 @@ fault-at-requires : tie.Need-fault-at-requires Inv-loop μ-loop
 fault-at-requires c κs =
     let p = c .before .before .before .before .before .before .pre in let q = noted-at (p .3) _ (c .before .loop-test .taken) in (p .0, p .1, p .2, q .0, q .1)
 
+refusal-at-requires : tie.Need-refusal-at-requires Inv-loop μ-loop
+refusal-at-requires c κs = search needs
+
 returns : tie.Need-returns Inv-loop μ-loop
 returns c =
-    let at-fault-at = c .before in
+    let at-fault-at = c .before .before in
     let at-loop-test = at-fault-at .before .before in
     let at-loop = at-loop-test .before in
     let start = at-loop .before .before .before .before in
-    aiming-fault (start .pre .3 .room) (at-loop .loop .inv) (at-loop-test .loop-test .taken) refl (at-fault-at .fault-at .ensures) (c .if1 .taken)
+    rw (c .refusal-at .ensures)
+    (aiming-fault (start .pre .3 .room) (at-loop .loop .inv) (at-loop-test .loop-test .taken) refl (at-fault-at .fault-at .ensures) (c .before .if1 .taken))
 
 add-i : tie.Need-add-i Inv-loop μ-loop
 add-i c = search needs
@@ -69,6 +73,7 @@ aim-spec =
     shared-slice-read-at
     cast-at
     fault-at-requires
+    refusal-at-requires
     returns
     add-i
     loop-less

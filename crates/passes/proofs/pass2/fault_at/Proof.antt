@@ -1,9 +1,8 @@
 use native.Mathlib.Omega.{arith}
 use mathlib.Core.Path.{sym}
 use lib.ListN.{getD}
-use Rattle.verdict.proofs.Faults.{f-backward, f-forward, f-no-start, f-past}
+use Rattle.verdict.proofs.Deciding.{f-backward, f-forward, f-no-start, f-past, decodes-fits}
 use Rattle.isa.proofs.Promises.{jump-operands}
-use Rattle.verdict.proofs.Decoded.{decodes-fits}
 use Rattle.passes.proofs.Scanning.{jumps-kind}
 use Rattle.passes.proofs.Aiming.{mark-says}
 use Rattle.passes.proofs.pass2.fault_at.Statement.{statement}

@@ -1,8 +1,8 @@
 use native.Mathlib.Omega.{arith}
 use Prim.Native.Nat.{max}
 use mathlib.Core.Path.{refl, ap, sym, _∙_}
-use Rattle.verdict.proofs.Faults.{fault-few, fault-many, fault-none, fault-off}
-use Rattle.encoding.proofs.Promises.{not-fails, not-holds}
+use Rattle.verdict.proofs.Deciding.{fault-few, fault-many, fault-none, fault-off}
+use Rattle.logic.proofs.Promises.{not-fails, not-holds}
 use Rattle.isa.proofs.Promises.{after-by}
 use borrow.Author.Needs.{needs}
 use Rattle.passes.proofs.pass3.effect_by.Statement.{statement}

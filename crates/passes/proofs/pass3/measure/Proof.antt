@@ -2,7 +2,7 @@ use native.Mathlib.Omega.{arith}
 use Prim.Native.Nat.{_-_}
 use mathlib.Core.Path.{_≡_, refl}
 use lib.ListN.{length}
-use Rattle.passes.specs.Tables.{Measuring}
+use Rattle.passes.specs.joining.Tables.{Measuring}
 use Rattle.passes.proofs.Measuring.{measuring-start, measuring-turn, measuring-fault, measuring-end, passing-known}
 use borrow.Author.Needs.{needs}
 use Rattle.passes.proofs.pass3.measure.Statement.{statement}
@@ -39,6 +39,9 @@ step-requires : tie.Need-step-requires Inv-loop μ-loop
 step-requires c κs =
     let s = c .before .before .before .before .before .before .loop .inv .0 in let k = c .before .before .before .before .before .before .loop .at in (c .before .before .before .before .before .before .before .before .before .before .pre .0, (refl, (record { passing = s .here (search needs); small = s .small; near = omega (arith, s .near, s .within, c .before .before .before .before .before .before .before .before .before .before .pre .1); low = omega (arith, s .low k, s .within, c .before .before .before .before .before .before .before .before .before .before .pre .1); untold = s .untold k (search needs); heights-long = s .heights-ahead .long; distances-long = s .distances-ahead .long }, (omega (arith, c .before .before .wide .ensures .0, c .before .before .before .column .ensures), c .before .before .before .before .before .before .loop .inv .1))))
 
+refusal-at-requires : tie.Need-refusal-at-requires Inv-loop μ-loop
+refusal-at-requires c κs = search needs
+
 same-length : tie.Need-same-length Inv-loop μ-loop
 same-length c = search needs
 
@@ -47,7 +50,10 @@ same-length-2 c = search needs
 
 returns : tie.Need-returns Inv-loop μ-loop
 returns c =
-    measuring-fault (c .before .before .before .before .before .before .before .before .before .before .before .before .before .loop .inv .0) (search needs) (c .before .before .before .before .before .before .step .ensures) (c .if1 .taken)
+    let at-if = c .before in
+    let at-step = at-if .before .before .before .before .before .before in
+    let at-test = at-step .before .before .before .before .before .before in
+    rw (c .refusal-at .ensures) (measuring-fault (at-test .before .loop .inv .0) (at-test .loop-test .taken) (at-step .step .ensures) (at-if .if1 .taken))
 
 loop-less : tie.Need-loop-less Inv-loop μ-loop
 loop-less c = search needs
@@ -56,8 +62,8 @@ loop-again : tie.Need-loop-again Inv-loop μ-loop
 loop-again c =
     (rw (c .before .before .before .before .before .before .before .before .before .wide .ensures .0, c .before .before .before .before .before .before .before .before .before .before .column .ensures) (measuring-turn (c .before .before .before .before .before .before .before .before .before .before .before .before .before .loop .inv .0) (search needs) (c .before .before .before .before .before .before .step .ensures) (omega arith)), omega arith, search needs, search needs)
 
-cast-t18 : tie.Need-cast-t18 Inv-loop μ-loop
-cast-t18 c = record { fits = omega (arith, c .before .before .loop .inv .0 .top) }
+cast-t19 : tie.Need-cast-t19 Inv-loop μ-loop
+cast-t19 c = record { fits = omega (arith, c .before .before .loop .inv .0 .top) }
 
 same-length-3 : tie.Need-same-length-3 Inv-loop μ-loop
 same-length-3 c = search needs
@@ -81,12 +87,13 @@ measure-spec =
     wide-requires
     add-next-2
     step-requires
+    refusal-at-requires
     same-length
     same-length-2
     returns
     loop-less
     loop-again
-    cast-t18
+    cast-t19
     same-length-3
     same-length-4
     returns-2)

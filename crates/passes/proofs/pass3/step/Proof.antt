@@ -1,7 +1,7 @@
 use native.Mathlib.Omega.{arith}
 use mathlib.Core.Path.{refl, sym, _∙_}
 use lib.ListN.{getD}
-use Rattle.verdict.proofs.Faults.{fault-differing}
+use Rattle.verdict.proofs.Deciding.{fault-differing}
 use Rattle.passes.proofs.Measuring.{passing-in, farther-low, turned-step}
 use borrow.Author.Needs.{needs}
 use Rattle.passes.proofs.pass3.step.Statement.{statement}
@@ -42,7 +42,7 @@ returns-2 c =
     let at-if2 = c .before in
     let at-incoming = at-if2 .before .before .before .before in
     let start = at-incoming .before .before .before .before .before .before in
-    let a = start .args in let p = start .pre in let s = p .1 .1 .0 in let e = a .e .now in let k = a .at in let i = at-incoming .incoming .ensures in turned-step i (omega arith) (record { number = c .refused .ensures ∙ fault-differing e k _ (at-if2 .if2 .taken); passed = λ z. absurd (omega (arith, c .refused .ensures)); told = record { heights-are = λ z. absurd (omega (arith, c .refused .ensures)); distances-are = λ z. absurd (omega (arith, c .refused .ensures)) } })
+    let a = start .args in let p = start .pre in let s = p .1 .1 .0 in let e = a .e .now in let k = a .at in let i = at-incoming .incoming .ensures in turned-step i (omega arith) (record { number = c .refused .ensures ∙ fault-differing e k _ (at-if2 .if2 .taken); passed = λ z. absurd (omega (arith, c .refused .ensures)); brings = record { heights-are = λ z. absurd (omega (arith, c .refused .ensures)); distances-are = λ z. absurd (omega (arith, c .refused .ensures)) } })
 
 step-reached-requires : tie.Need-step-reached-requires
 step-reached-requires c κs =

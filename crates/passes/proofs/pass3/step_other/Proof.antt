@@ -3,9 +3,9 @@ use mathlib.Core.Path.{_≡_, refl, sym, _∙_}
 use lib.ListN.{getD}
 use Rattle.isa.specs.Classes.{classOf, opcodes, kind, kind-pick, kind-goto, kind-if-goto, kind-end}
 use Rattle.isa.specs.Decode.{kindAt}
-use Rattle.verdict.proofs.Faults.{off-end, off-goto, off-other}
+use Rattle.verdict.proofs.Deciding.{off-end, off-goto, off-other}
 use Rattle.isa.proofs.Promises.{kind-most, pick-operands, pick-cells, goto-cells, if-goto-cells, end-cells, picked-pick, needed-by, left-by, needed-row, left-row}
-use Rattle.passes.proofs.Measuring.{passing-fits, told-none, stepped-on, stepped-goto, stepped-end}
+use Rattle.passes.proofs.Measuring.{passing-fits, brings-none, stepped-on, stepped-goto, stepped-end}
 use borrow.Author.Needs.{needs}
 use Rattle.passes.proofs.pass3.step_other.Statement.{statement}
 use Rattle.passes.proofs.pass3.step_other.Tie as tie
@@ -47,7 +47,7 @@ returns c =
     let l = v .wide2 .ensures .0 ∙ w .before .before .look-up .ensures .left-is ∙ x .1 ∙ sym (y .1) in
     stepped-on e k _ _ _ _ (omega (arith, q)) (omega (arith, q))
     (c .effect-by .ensures e k (needed-by e k _ _ n m) (left-by e k _ _ l m) (off-other e k _ (omega (arith, q)) (omega (arith, q)) (p .1 .0)))
-    (told-none e k _ _ _ _ _ (omega (arith, q)) (omega (arith, q)))
+    (brings-none e k _ _ _ _ _ (omega (arith, q)) (omega (arith, q)))
 
 look-up-requires-2 : tie.Need-look-up-requires-2
 look-up-requires-2 c κs = search needs

@@ -3,9 +3,9 @@ use Prim.Native.Nat.{ℕ}
 use mathlib.Core.Path.{ap, _∙_}
 use lib.ListN.{getD}
 use Rattle.isa.specs.Classes.{classOf, row, kind}
-use Rattle.verdict.proofs.Faults.{off-other}
+use Rattle.verdict.proofs.Deciding.{off-other}
 use Rattle.isa.proofs.Promises.{needed-row, left-row}
-use Rattle.passes.proofs.Measuring.{passing-known, told-none, stepped-on}
+use Rattle.passes.proofs.Measuring.{passing-known, brings-none, stepped-on}
 use borrow.Author.Needs.{needs}
 use Rattle.passes.proofs.pass3.step_reached.Statement.{statement}
 use Rattle.passes.proofs.pass3.step_reached.Tie as tie
@@ -56,7 +56,7 @@ returns-2 c =
     let at-column2 = at-wide .before in
     let at-column = at-column2 .before .before in
     let start = at-column .before .before .before .before in
-    let a = start .args in let p = start .pre in let s = p .1 .1 .0 in let e = a .e .now in let k = a .at in let q = at-column .column .ensures ∙ ap (λ (o : ℕ). kind (classOf o)) (p .1 .0) in stepped-on e k _ _ _ _ (omega (arith, q)) (omega (arith, q)) (c .effect-by .ensures e k (needed-row e k _ (at-wide .wide .ensures .0 ∙ at-column2 .column2 .ensures ∙ ap (λ (o : ℕ). getD (row (classOf o)) 1 0) (p .1 .0)) (omega (arith, q))) (left-row e k _ (at-wide2 .wide2 .ensures .0 ∙ at-column3 .column3 .ensures ∙ ap (λ (o : ℕ). getD (row (classOf o)) 2 0) (p .1 .0)) (omega (arith, q))) (off-other e k _ (omega (arith, q)) (omega (arith, q)) (p .1 .1 .1))) (told-none e k _ _ _ _ _ (omega (arith, q)) (omega (arith, q)))
+    let a = start .args in let p = start .pre in let s = p .1 .1 .0 in let e = a .e .now in let k = a .at in let q = at-column .column .ensures ∙ ap (λ (o : ℕ). kind (classOf o)) (p .1 .0) in stepped-on e k _ _ _ _ (omega (arith, q)) (omega (arith, q)) (c .effect-by .ensures e k (needed-row e k _ (at-wide .wide .ensures .0 ∙ at-column2 .column2 .ensures ∙ ap (λ (o : ℕ). getD (row (classOf o)) 1 0) (p .1 .0)) (omega (arith, q))) (left-row e k _ (at-wide2 .wide2 .ensures .0 ∙ at-column3 .column3 .ensures ∙ ap (λ (o : ℕ). getD (row (classOf o)) 2 0) (p .1 .0)) (omega (arith, q))) (off-other e k _ (omega (arith, q)) (omega (arith, q)) (p .1 .1 .1))) (brings-none e k _ _ _ _ _ (omega (arith, q)) (omega (arith, q)))
 
 pub step-reached-spec : {M : Type 1} → statement M
 step-reached-spec =

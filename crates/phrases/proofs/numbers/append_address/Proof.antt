@@ -1,6 +1,6 @@
 -- `phrases::numbers::append_address` meets its contract. Assumes nothing.
 use borrow.Author.Needs.{needs}
-use Rattle.report.proofs.Promises.{appends-same}
+use Rattle.text_buffer.proofs.Promises.{appends-same}
 use Rattle.phrases.proofs.Numbering.{spelt}
 use Rattle.phrases.proofs.numbers.append_address.Statement.{statement}
 use Rattle.phrases.proofs.numbers.append_address.Tie as tie

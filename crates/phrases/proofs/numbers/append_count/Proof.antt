@@ -1,10 +1,9 @@
 -- `phrases::numbers::append_count` meets its contract. Assumes nothing.
 use borrow.Author.Needs.{needs}
 use denote.Ref.{now}
-use Rattle.report.proofs.Promises.{appends-same, one, more}
-use Rattle.report.specs.Text.{bytesOf}
-use Rattle.listing.specs.Numbers.{decimal}
-use Rattle.listing.proofs.Promises.{appends-number}
+use Rattle.text_buffer.proofs.Promises.{appends-same, one, more, appends-number}
+use Rattle.text_buffer.specs.Text.{bytesOf}
+use Rattle.text_buffer.specs.Decimal.{decimal}
 use Rattle.phrases.proofs.Numbering.{count-one, count-more}
 use Rattle.phrases.proofs.numbers.append_count.Statement.{statement}
 use Rattle.phrases.proofs.numbers.append_count.Tie as tie

@@ -3,7 +3,7 @@ use borrow.Author.Needs.{needs}
 use denote.Ref.{now}
 use mathlib.Core.Path.{_∙_}
 use Rattle.encoding.proofs.Promises.{part-lent}
-use Rattle.report.proofs.Promises.{appends-same}
+use Rattle.text_buffer.proofs.Promises.{appends-same}
 use Rattle.phrases.proofs.numbers.append_significant.Statement.{statement}
 use Rattle.phrases.proofs.numbers.append_significant.Tie as tie
 

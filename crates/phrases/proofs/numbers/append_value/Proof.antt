@@ -1,10 +1,9 @@
 -- `phrases::numbers::append_value` meets its contract. Assumes nothing.
 use borrow.Author.Needs.{needs}
 use mathlib.Core.Path.{ap}
-use Rattle.report.proofs.Promises.{appends-same, one, more}
-use Rattle.report.specs.Text.{bytesOf}
-use Rattle.listing.specs.Numbers.{decimal}
-use Rattle.listing.proofs.Promises.{appends-number}
+use Rattle.text_buffer.proofs.Promises.{appends-same, one, more, appends-number}
+use Rattle.text_buffer.specs.Text.{bytesOf}
+use Rattle.text_buffer.specs.Decimal.{decimal}
 use Rattle.phrases.specs.Numbers.{hexText, significant, valueText}
 use Rattle.phrases.proofs.Numbering.{spelt}
 use Rattle.phrases.proofs.numbers.append_value.Statement.{statement}

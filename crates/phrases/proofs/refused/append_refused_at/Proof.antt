@@ -1,9 +1,8 @@
 -- `phrases::refused::append_refused_at` meets its contract. Assumes nothing.
 use borrow.Author.Needs.{needs}
-use Rattle.report.proofs.Promises.{one, more}
-use Rattle.report.specs.Text.{bytesOf}
-use Rattle.listing.specs.Numbers.{decimal}
-use Rattle.listing.proofs.Promises.{appends-number}
+use Rattle.text_buffer.proofs.Promises.{one, more, appends-number}
+use Rattle.text_buffer.specs.Text.{bytesOf}
+use Rattle.text_buffer.specs.Decimal.{decimal}
 use Rattle.phrases.specs.Refused.{refusedAt}
 use Rattle.phrases.proofs.refused.append_refused_at.Statement.{statement}
 use Rattle.phrases.proofs.refused.append_refused_at.Tie as tie

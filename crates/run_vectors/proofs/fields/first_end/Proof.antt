@@ -1,4 +1,5 @@
--- `run_vectors::fields::first_end` meets its contract: the place stays within the text. The measure is what is left of it. Assumes nothing.
+-- `run_vectors::fields::first_end` meets its contract: the place stays within the text. The measure is what is left of
+-- it. Assumes nothing.
 use borrow.Author.Needs.{needs}
 use Prim.Native.Nat.{_≤_, _-_}
 use lib.ListN.{length}

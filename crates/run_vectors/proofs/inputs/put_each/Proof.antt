@@ -1,4 +1,5 @@
--- `run_vectors::inputs::put_each` meets its contract. The measure is the number of turns that are left. Assumes nothing.
+-- `run_vectors::inputs::put_each` meets its contract. The measure is the number of turns that are left. Assumes
+-- nothing.
 use borrow.Author.Needs.{needs}
 use Rattle.run_vectors.proofs.inputs.put_each.Statement.{statement}
 use Rattle.run_vectors.proofs.inputs.put_each.Tie as tie

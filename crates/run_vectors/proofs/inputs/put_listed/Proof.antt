@@ -1,4 +1,5 @@
--- `run_vectors::inputs::put_listed` meets its contract: the slice keeps its length. The measure is what is left of it. Assumes nothing.
+-- `run_vectors::inputs::put_listed` meets its contract: the slice keeps its length. The measure is what is left of it.
+-- Assumes nothing.
 use borrow.Author.Needs.{needs}
 use Prim.Native.Nat.{_-_}
 use mathlib.Core.Path.{_≡_}

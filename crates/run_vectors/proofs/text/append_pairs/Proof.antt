@@ -1,4 +1,5 @@
--- `run_vectors::text::append_pairs` meets its contract: the count stays one of the buffer, which keeps its length. The measure is what is left of the bytes. Assumes nothing.
+-- `run_vectors::text::append_pairs` meets its contract: the count stays one of the buffer, which keeps its length. The
+-- measure is what is left of the bytes. Assumes nothing.
 use borrow.Author.Needs.{needs}
 use Prim.Native.Nat.{_-_}
 use mathlib.Core.Path.{_≡_}

@@ -1,4 +1,5 @@
--- `run_vectors::text::append_variables` meets its contract: the count stays one of the buffer, which keeps its length. The measure is the number of variables that are left. Assumes nothing.
+-- `run_vectors::text::append_variables` meets its contract: the count stays one of the buffer, which keeps its length.
+-- The measure is the number of variables that are left. Assumes nothing.
 use borrow.Author.Needs.{needs}
 use Prim.Native.Nat.{_-_}
 use mathlib.Core.Path.{_≡_}

@@ -1,7 +1,7 @@
 -- `tracefile::body::append_little` meets its contract. Assumes nothing.
 use borrow.Author.Needs.{needs}
 use mathlib.Core.Path.{refl}
-use Rattle.report.proofs.Promises.{appends-same}
+use Rattle.text_buffer.proofs.Promises.{appends-same}
 use Rattle.tracefile.proofs.Filing.{little-part}
 use Rattle.tracefile.proofs.body.append_little.Statement.{statement}
 use Rattle.tracefile.proofs.body.append_little.Tie as tie

@@ -2,8 +2,8 @@
 use borrow.Author.Needs.{needs}
 use denote.Ref.{now}
 use lib.ListN.{length}
-use Rattle.report.proofs.Promises.{appends-same, one, more}
-use Rattle.report.specs.Text.{bytesOf}
+use Rattle.text_buffer.proofs.Promises.{appends-same, one, more}
+use Rattle.text_buffer.specs.Text.{bytesOf}
 use Rattle.encoding.specs.LittleEndian.{littleBytes}
 use Rattle.tracefile.proofs.Filing.{memory-parts}
 use Rattle.tracefile.proofs.body.append_memory.Statement.{statement}

@@ -1,7 +1,7 @@
 -- `tracefile::body::append_opening` meets its contract. Assumes nothing.
 use borrow.Author.Needs.{needs}
 use mathlib.Core.Path.{sym, ap, _∙_}
-use Rattle.report.proofs.Promises.{appends-same, one, more}
+use Rattle.text_buffer.proofs.Promises.{appends-same, one, more}
 use Rattle.encoding.specs.LittleEndian.{littleBytes}
 use Rattle.reader.specs.Answers.{countedOf}
 use Rattle.tracefile.specs.Frames.{openingBytes}
@@ -11,8 +11,8 @@ use Rattle.tracefile.proofs.body.append_opening.Tie as tie
 count-records-requires : tie.Need-count-records-requires
 count-records-requires c κs = search needs
 
-enum-known-tracepoint : tie.Need-enum-known-tracepoint
-enum-known-tracepoint c = search needs
+enum-known-tag : tie.Need-enum-known-tag
+enum-known-tag c = search needs
 
 cast-append-little : tie.Need-cast-append-little
 cast-append-little c = search needs
@@ -37,7 +37,11 @@ same-length c = search needs
 
 returns : tie.Need-returns
 unfolding openingBytes
-returns c = let g = c .before .before .before .before .before .before .before .before .before .tracepoint .given .0 in (c .before .before .append-little2 .ensures .0, appends-same _ _ (ap openingBytes (ap countedOf (sym (c .before .before .before .before .before .before .before .before .before .tracepoint .given .1)) ∙ c .before .before .before .before .before .before .before .before .before .before .before .count-records .ensures)) ((more (one (littleBytes 2 (g .0)) (c .before .before .before .before .before .before .append-little .ensures .1)) (littleBytes 4 (g .1 .1 .0)) (c .before .before .append-little2 .ensures .1)) .text))
+returns c =
+    let a = c .before .before .before .before .before .before in
+    let t = a .before .before .before .before in
+    let g = t .tag .given .0 in
+    (c .before .before .append-little2 .ensures .0, appends-same _ _ (ap openingBytes (ap countedOf (sym (t .tag .given .1)) ∙ t .before .before .count-records .ensures)) ((more (one (littleBytes 2 (g .0 .tracepoint)) (a .append-little .ensures .1)) (littleBytes 4 (g .1 .1 .0)) (c .before .before .append-little2 .ensures .1)) .text))
 
 same-length-2 : tie.Need-same-length-2
 same-length-2 c = search needs
@@ -51,7 +55,7 @@ append-opening-spec =
     tie.close
     (tie.spec
     count-records-requires
-    enum-known-tracepoint
+    enum-known-tag
     cast-append-little
     append-little-requires
     append-little-requires-2

@@ -3,7 +3,7 @@ use borrow.Author.Needs.{needs}
 use mathlib.Core.Path.{sym, ap, _∙_}
 use denote.Ref.{now}
 use native.Mathlib.Omega.{arith}
-use Rattle.report.proofs.Promises.{appends-same}
+use Rattle.text_buffer.proofs.Promises.{appends-same}
 use Rattle.reader.specs.Answers.{readOf}
 use Rattle.reader.proofs.Promises.{read-inside}
 use Rattle.tracefile.specs.Frames.{recordBytes}
@@ -23,8 +23,8 @@ slice-aggregate-append c = search needs
 append-requires : tie.Need-append-requires
 append-requires c κs = search needs
 
-enum-known-tracepoint : tie.Need-enum-known-tracepoint
-enum-known-tracepoint c = search needs
+enum-known-tag : tie.Need-enum-known-tag
+enum-known-tag c = search needs
 
 wrapping-add-u64-requires : tie.Need-wrapping-add-u64-requires
 wrapping-add-u64-requires c κs = search needs
@@ -32,11 +32,11 @@ wrapping-add-u64-requires c κs = search needs
 append-variable-requires : tie.Need-append-variable-requires
 append-variable-requires c κs = search needs
 
-enum-known-tracepoint-2 : tie.Need-enum-known-tracepoint-2
-enum-known-tracepoint-2 c = search needs
+enum-known-tag-2 : tie.Need-enum-known-tag-2
+enum-known-tag-2 c = search needs
 
 add-end : tie.Need-add-end
-add-end c = record { fits = omega (arith, read-inside (now (c .before .before .before .before .before .before .args .buffer)) (c .before .before .before .before .before .before .args .used) (c .before .before .before .before .before .before .args .number) (c .before .before .before .before .before .before .args .index) (sym (ap readOf (sym (c .before .tracepoint2 .given .1)) ∙ c .before .before .before .read .ensures))) }
+add-end c = record { fits = omega (arith, read-inside (now (c .before .before .before .before .before .before .args .buffer)) (c .before .before .before .before .before .before .args .used) (c .before .before .before .before .before .before .args .number) (c .before .before .before .before .before .before .args .index) (sym (ap readOf (sym (c .before .tag2 .given .1)) ∙ c .before .before .before .read .ensures))) }
 
 sub-append-memory : tie.Need-sub-append-memory
 sub-append-memory c = search needs
@@ -45,7 +45,7 @@ part-append-memory-start : tie.Need-part-append-memory-start
 part-append-memory-start c = search needs
 
 part-append-memory-end : tie.Need-part-append-memory-end
-part-append-memory-end c = omega (arith, read-inside (now (c .before .before .before .before .before .before .before .args .buffer)) (c .before .before .before .before .before .before .before .args .used) (c .before .before .before .before .before .before .before .args .number) (c .before .before .before .before .before .before .before .args .index) (sym (ap readOf (sym (c .before .before .tracepoint2 .given .1)) ∙ c .before .before .before .before .read .ensures)))
+part-append-memory-end c = omega (arith, read-inside (now (c .before .before .before .before .before .before .before .args .buffer)) (c .before .before .before .before .before .before .before .args .used) (c .before .before .before .before .before .before .before .args .number) (c .before .before .before .before .before .before .before .args .index) (sym (ap readOf (sym (c .before .before .tag2 .given .1)) ∙ c .before .before .before .before .read .ensures)))
 
 append-memory-requires : tie.Need-append-memory-requires
 append-memory-requires c κs = search needs
@@ -62,14 +62,14 @@ same-length-2 c = search needs
 
 returns-2 : tie.Need-returns-2
 unfolding recordBytes
-returns-2 c = let a = c .before .before .before .before .before .before .before .before .before .before .before .args in let g = c .before .before .before .before .before .before .tracepoint .given .0 in (c .before .before .append-variable .ensures .0, appends-same _ _ (next-variable (g .1 .1 .0) (g .1 .0) _ (search needs) (c .before .before .before .before .wrapping-add-u64 .ensures) ∙ ap (recordBytes (now (a .buffer))) (ap readOf (sym (c .before .before .before .before .before .before .tracepoint .given .1)) ∙ c .before .before .before .before .before .before .before .before .read .ensures)) (c .before .before .append-variable .ensures .1))
+returns-2 c = let a = c .before .before .before .before .before .before .before .before .before .before .before .args in let g = c .before .before .before .before .before .before .tag .given .0 in (c .before .before .append-variable .ensures .0, appends-same _ _ (next-variable (g .1 .1 .0) (g .1 .0) _ (search needs) (c .before .before .before .before .wrapping-add-u64 .ensures) ∙ ap (recordBytes (now (a .buffer))) (ap readOf (sym (c .before .before .before .before .before .before .tag .given .1)) ∙ c .before .before .before .before .before .before .before .before .read .ensures)) (c .before .before .append-variable .ensures .1))
 
 same-length-3 : tie.Need-same-length-3
 same-length-3 c = search needs
 
 returns-3 : tie.Need-returns-3
 unfolding recordBytes
-returns-3 c = let a = c .before .before .before .before .before .before .before .before .before .before .before .args in let g = c .before .before .before .before .before .before .tracepoint2 .given .0 in (c .before .before .append-memory .ensures .0, appends-same _ _ (bytes-part (now (a .buffer)) (g .1 .0) (g .1 .1 .0) (g .1 .1 .1 .0) ∙ ap (recordBytes (now (a .buffer))) (ap readOf (sym (c .before .before .before .before .before .before .tracepoint2 .given .1)) ∙ c .before .before .before .before .before .before .before .before .read .ensures)) (c .before .before .append-memory .ensures .1))
+returns-3 c = let a = c .before .before .before .before .before .before .before .before .before .before .before .args in let g = c .before .before .before .before .before .before .tag2 .given .0 in (c .before .before .append-memory .ensures .0, appends-same _ _ (bytes-part (now (a .buffer)) (g .1 .0) (g .1 .1 .0) (g .1 .1 .1 .0) ∙ ap (recordBytes (now (a .buffer))) (ap readOf (sym (c .before .before .before .before .before .before .tag2 .given .1)) ∙ c .before .before .before .before .before .before .before .before .read .ensures)) (c .before .before .append-memory .ensures .1))
 
 pub append-record-spec : {M : Type 1} → statement M
 append-record-spec =
@@ -79,10 +79,10 @@ append-record-spec =
     enum-known-refusal
     slice-aggregate-append
     append-requires
-    enum-known-tracepoint
+    enum-known-tag
     wrapping-add-u64-requires
     append-variable-requires
-    enum-known-tracepoint-2
+    enum-known-tag-2
     add-end
     sub-append-memory
     part-append-memory-start

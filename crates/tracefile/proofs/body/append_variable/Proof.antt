@@ -1,7 +1,7 @@
 -- `tracefile::body::append_variable` meets its contract. Assumes nothing.
 use borrow.Author.Needs.{needs}
-use Rattle.report.proofs.Promises.{appends-same, one, more}
-use Rattle.report.specs.Text.{bytesOf}
+use Rattle.text_buffer.proofs.Promises.{appends-same, one, more}
+use Rattle.text_buffer.specs.Text.{bytesOf}
 use Rattle.encoding.specs.LittleEndian.{littleBytes}
 use Rattle.tracefile.proofs.Filing.{variable-parts}
 use Rattle.tracefile.proofs.body.append_variable.Statement.{statement}

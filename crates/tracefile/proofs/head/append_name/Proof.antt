@@ -2,10 +2,9 @@
 use borrow.Author.Needs.{needs}
 use mathlib.Core.Path.{ap}
 use native.Mathlib.Omega.{arith}
-use Rattle.report.proofs.Promises.{appends-same, appends-text, text-of}
-use Rattle.report.specs.Text.{bytesOf}
-use Rattle.report.specs.Hex.{hexOf}
-use Rattle.listing.proofs.Promises.{appends-number}
+use Rattle.text_buffer.proofs.Promises.{appends-same, appends-text, text-of, appends-number}
+use Rattle.text_buffer.specs.Text.{bytesOf}
+use Rattle.hexadecimal.specs.Hex.{hexOf}
 use Rattle.tracefile.proofs.Filing.{named}
 use Rattle.tracefile.proofs.head.append_name.Statement.{statement}
 use Rattle.tracefile.proofs.head.append_name.Tie as tie

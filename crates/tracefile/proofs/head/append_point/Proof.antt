@@ -1,7 +1,7 @@
 -- `tracefile::head::append_point` meets its contract. Assumes nothing.
 use borrow.Author.Needs.{needs}
-use Rattle.report.proofs.Promises.{one, more}
-use Rattle.report.specs.Text.{bytesOf}
+use Rattle.text_buffer.proofs.Promises.{one, more}
+use Rattle.text_buffer.specs.Text.{bytesOf}
 use Rattle.phrases.specs.Numbers.{hexText}
 use Rattle.tracefile.specs.Head.{pointText}
 use Rattle.tracefile.proofs.head.append_point.Statement.{statement}

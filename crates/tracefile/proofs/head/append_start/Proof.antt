@@ -1,8 +1,8 @@
 -- `tracefile::head::append_start` meets its contract. Assumes nothing.
 use borrow.Author.Needs.{needs}
 use mathlib.Core.List.{[], _∷_}
-use Rattle.report.proofs.Promises.{one, more}
-use Rattle.report.specs.Text.{bytesOf}
+use Rattle.text_buffer.proofs.Promises.{one, more}
+use Rattle.text_buffer.specs.Text.{bytesOf}
 use Rattle.phrases.specs.Numbers.{hexText}
 use Rattle.tracefile.specs.Head.{startText}
 use Rattle.tracefile.proofs.head.append_start.Statement.{statement}

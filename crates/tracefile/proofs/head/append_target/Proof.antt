@@ -1,7 +1,7 @@
 -- `tracefile::head::append_target` meets its contract. Assumes nothing.
 use borrow.Author.Needs.{needs}
-use Rattle.report.proofs.Promises.{one, more}
-use Rattle.report.specs.Text.{bytesOf}
+use Rattle.text_buffer.proofs.Promises.{one, more}
+use Rattle.text_buffer.specs.Text.{bytesOf}
 use Rattle.tracefile.specs.Head.{targetText}
 use Rattle.tracefile.proofs.head.append_target.Statement.{statement}
 use Rattle.tracefile.proofs.head.append_target.Tie as tie

@@ -1,7 +1,7 @@
 -- `tracefile::head::append_tracepoint` meets its contract. Assumes nothing.
 use borrow.Author.Needs.{needs}
 use mathlib.Core.Path.{sym, ap, _∙_}
-use Rattle.report.proofs.Promises.{appends-same}
+use Rattle.text_buffer.proofs.Promises.{appends-same}
 use Rattle.reader.specs.Answers.{locatedOf}
 use Rattle.tracefile.specs.Head.{tracepointText}
 use Rattle.tracefile.proofs.head.append_tracepoint.Statement.{statement}
@@ -10,8 +10,8 @@ use Rattle.tracefile.proofs.head.append_tracepoint.Tie as tie
 locate-requires : tie.Need-locate-requires
 locate-requires c κs = search needs
 
-enum-known-tracepoint : tie.Need-enum-known-tracepoint
-enum-known-tracepoint c = search needs
+enum-known-tag : tie.Need-enum-known-tag
+enum-known-tag c = search needs
 
 append-point-requires : tie.Need-append-point-requires
 append-point-requires c κs = search needs
@@ -30,7 +30,7 @@ same-length c = search needs
 
 returns : tie.Need-returns
 unfolding tracepointText
-returns c = (c .before .before .append-point .ensures .0, appends-same _ _ (ap tracepointText (ap locatedOf (sym (c .before .before .before .before .before .tracepoint .given .1)) ∙ c .before .before .before .before .before .before .before .locate .ensures)) (c .before .before .append-point .ensures .1))
+returns c = (c .before .before .append-point .ensures .0, appends-same _ _ (ap tracepointText (ap locatedOf (sym (c .before .before .before .before .before .tag .given .1)) ∙ c .before .before .before .before .before .before .before .locate .ensures)) (c .before .before .append-point .ensures .1))
 
 same-length-2 : tie.Need-same-length-2
 same-length-2 c = search needs
@@ -44,7 +44,7 @@ append-tracepoint-spec =
     tie.close
     (tie.spec
     locate-requires
-    enum-known-tracepoint
+    enum-known-tag
     append-point-requires
     enum-known-refusal
     slice-aggregate-append

@@ -1,9 +1,9 @@
 -- `tracefile::head::append_variable` meets its contract. Assumes nothing.
 use borrow.Author.Needs.{needs}
 use Prim.Native.Nat.{_+_}
-use Rattle.report.proofs.Promises.{appends-same, one, more}
-use Rattle.report.specs.Text.{bytesOf}
-use Rattle.report.specs.Hex.{hexOf}
+use Rattle.text_buffer.proofs.Promises.{appends-same, one, more}
+use Rattle.text_buffer.specs.Text.{bytesOf}
+use Rattle.hexadecimal.specs.Hex.{hexOf}
 use Rattle.phrases.specs.Numbers.{hexText}
 use Rattle.tracefile.specs.Head.{nameText, variableText}
 use Rattle.tracefile.proofs.Filing.{next-hex}

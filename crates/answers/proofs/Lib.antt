@@ -1,8 +1,0 @@
--- `Promises` is the page for users of this crate; the others hold the work behind it.
-pub mod Promises
-mod Answering
-mod Lines
-mod Rows
-mod Sizes
-mod Columns
-mod Back

@@ -1,6 +1,0 @@
-// What verify and run answer, as lines of text. Each function appends to a text in a lent buffer, as
-// those of `report::text` do: `at` is where the text so far ends, and the answer is where it ends then.
-pub mod bytes;
-pub mod listed;
-pub mod outcome;
-pub mod verdict_line;

@@ -1,0 +1,2 @@
+-- The definitions of `console_output`.
+pub mod Options

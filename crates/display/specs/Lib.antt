@@ -1,4 +1,0 @@
--- The definitions of `display`, in the order to read them. What is proved of them: proofs/Promises.antt.
-pub mod Dump
-pub mod Lines
-mod Examples

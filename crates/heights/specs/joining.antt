@@ -1,0 +1,2 @@
+-- What joins the functions of src/: nobody who reads the crate's promises needs it.
+pub mod Filling

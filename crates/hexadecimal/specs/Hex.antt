@@ -1,0 +1,103 @@
+-- What a hexadecimal text spells. Assumes nothing.
+use Prim.Native.Nat.{ℕ, zero, suc, _+_, _-_, _*_, _/_, _%_}
+use mathlib.Core.Bool.{Bool, true, false, cond}
+use mathlib.Core.List.{List, [], _∷_, _++_}
+use lib.Dec.{ltb, leb, eqb}
+use lib.ListN.{length, drop}
+use Rattle.io.specs.Digits.{glyph}
+use Rattle.hexadecimal.specs.declared.Token.{Token}
+use Rattle.hexadecimal.specs.declared.Token.the-variants.{Blank, Byte, Wrong, Single}
+use Rattle.hexadecimal.specs.declared.HexAnswer.{HexAnswer}
+use Rattle.hexadecimal.specs.declared.HexAnswer.the-variants.{Bytes, NotHex, Odd, TooLong}
+
+-- c is one of the characters from a to b
+abbrev pub isBetween : ℕ → ℕ → ℕ → Bool
+isBetween a b c = cond (leb a c) (leb c b) false
+
+-- a space, a tab, a line feed or a carriage return
+unfoldable pub isBlank : ℕ → Bool
+isBlank c = cond (eqb c 32) true (cond (eqb c 9) true (cond (eqb c 10) true (eqb c 13)))
+
+-- the value of a digit, `0` to `9`, `A` to `F` or `a` to `f`, and 16 for any other character
+unfoldable pub digitOf : ℕ → ℕ
+digitOf c =
+    cond (isBetween 48 57 c) (c - 48)
+    (cond (isBetween 65 70 c) (c - 55)
+    (cond (isBetween 97 102 c) (c - 87) 16))
+
+-- a digit as it is written, `0` to `9` or `a` to `f`; a text of such digits only
+unfoldable pub isLower : ℕ → Bool
+isLower c = cond (isBetween 48 57 c) true (isBetween 97 102 c)
+
+unfoldable pub allLower : List ℕ → Bool
+allLower [] = true
+allLower (c ∷ t) = cond (isLower c) (allLower t) false
+
+-- what the text t gives after a digit of the value high at position p
+unfoldable pub afterHigh : ℕ → ℕ → List ℕ → Token
+afterHigh p high [] = Single
+afterHigh p high (c ∷ t) = cond (ltb 15 (digitOf c)) (Wrong (p + 1)) (Byte (high * 16 + digitOf c))
+
+-- what stands at the start of a text whose first character has the position p
+unfoldable pub tokenOf : ℕ → List ℕ → Token
+tokenOf p [] = Single
+tokenOf p (c ∷ t) = cond (isBlank c) Blank (cond (ltb 15 (digitOf c)) (Wrong p) (afterHigh p (digitOf c) t))
+
+-- how the reading of a text ends: at its end, at a wrong character, at a single digit, at a byte that has no room
+pub data End : Type 0 where
+  whole : End
+  wrong : ℕ → End
+  single : End
+  full : End
+
+-- the bytes that were read, and why no more
+pub record Reading : Type 0 where
+  pub bytes : List ℕ
+  pub end : End
+
+abbrev pub stopped : End → Reading
+stopped e = record { bytes = []; end = e }
+
+-- the bytes l come before those of a reading
+abbrev pub withBytes : List ℕ → Reading → Reading
+withBytes l r = record { bytes = l ++ r .bytes; end = r .end }
+
+-- a reading by its first token, with room for so many bytes: a is the reading past a blank, and b that past a byte,
+-- with the room that is left
+abbrev pub byToken : Token → ℕ → Reading → (ℕ → Reading) → Reading
+byToken Blank room a b = a
+byToken (Wrong p) room a b = stopped (wrong p)
+byToken Single room a b = stopped single
+byToken (Byte x) zero a b = stopped full
+byToken (Byte x) (suc room) a b = withBytes (x ∷ []) (b room)
+
+-- the reading of a text whose first character has the position p, with room for so many bytes
+unfoldable pub readFrom : ℕ → ℕ → List ℕ → Reading
+readFrom p room [] = stopped whole
+readFrom p room (c ∷ []) = byToken (tokenOf p (c ∷ [])) room (stopped whole) (λ _. stopped whole)
+readFrom p room (c ∷ d ∷ t) = byToken (tokenOf p (c ∷ d ∷ t)) room (readFrom (p + 1) room (d ∷ t)) (λ r. readFrom (p + 2) r t)
+
+abbrev pub readingOf : List ℕ → ℕ → Reading
+readingOf text room = readFrom 0 room text
+
+-- the answer to a text that was read
+abbrev pub answerFor : List ℕ → End → HexAnswer
+answerFor l whole = Bytes (length l)
+answerFor l (wrong p) = NotHex p
+answerFor l single = Odd
+answerFor l full = TooLong
+
+abbrev pub hexAnswerOf : Reading → HexAnswer
+hexAnswerOf r = answerFor (r .bytes) (r .end)
+
+-- the buffer o with the bytes that were read at its start
+abbrev pub writtenOver : List ℕ → Reading → List ℕ
+writtenOver o r = r .bytes ++ drop (length (r .bytes)) o
+
+-- ---- written: a byte as two digits, in lower case
+abbrev pub pairOf : ℕ → List ℕ
+pairOf b = glyph (b / 16) ∷ glyph (b % 16) ∷ []
+
+unfoldable pub hexOf : List ℕ → List ℕ
+hexOf [] = []
+hexOf (b ∷ l) = pairOf b ++ hexOf l

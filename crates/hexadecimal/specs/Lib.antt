@@ -1,0 +1,3 @@
+-- The definitions of `hexadecimal`. What is proved of them: proofs/Promises.antt.
+pub mod Hex
+mod Examples

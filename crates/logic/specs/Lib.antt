@@ -1,0 +1,2 @@
+-- Tests of numbers. What is proved of them: proofs/Promises.antt.
+pub mod Tests

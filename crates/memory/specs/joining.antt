@@ -1,0 +1,3 @@
+-- Between the functions of this crate and their callers: not to be believed.
+pub mod Holding
+pub mod Searching

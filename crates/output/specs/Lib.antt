@@ -1,2 +1,0 @@
--- The definitions of `output`.
-pub mod Options

@@ -1,0 +1,2 @@
+-- Between the functions of this crate: not to be believed.
+pub mod Splitting

@@ -1,0 +1,2 @@
+-- `Promises` is the page for users of this crate.
+pub mod Promises

@@ -1,7 +1,0 @@
--- `Promises` is the page for users of this crate; the others hold the work behind it.
-pub mod Promises
-mod Appending
-mod Hexing
-mod HexWriting
-mod HexInverse
-mod Lists

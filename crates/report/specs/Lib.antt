@@ -1,4 +1,0 @@
-mod Examples
-pub mod Hex
-pub mod Refusals
-pub mod Text

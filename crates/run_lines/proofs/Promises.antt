@@ -1,0 +1,19 @@
+-- What users of `run_lines` may cite. The contracts of src/ are the rest: each function appends the text that specs/
+-- defines.
+use Prim.Native.Nat.{ℕ, _^_, _≤_, _<_}
+use mathlib.Core.Bool.{true, false}
+use mathlib.Core.List.{List, _++_}
+use mathlib.Core.Path.{_≡_}
+use lib.ListN.{length}
+use Rattle.text_buffer.specs.Text.{bytesOf}
+use Rattle.machine.specs.Machine.{Answer}
+use Rattle.run_lines.specs.Outcome.{isNarrow, completedText, IsWords}
+use Rattle.run_lines.proofs.Columns as columns
+
+-- ---- the answer of a completed run, whose numbers are words of 64 bits, is a line of at most 100 columns, or two
+pub narrow-line : (a : Answer) (n : ℕ) → isNarrow a n ≡ true → (l : List ℕ) × (completedText a n ≡ l ++ bytesOf "\n") × (length l ≤ 100)
+narrow-line = columns.one-line
+
+pub wide-lines : (a : Answer) (n : ℕ) → isNarrow a n ≡ false → IsWords a → n < 2 ^ 64
+    → (l : List ℕ) × (m : List ℕ) × (completedText a n ≡ l ++ bytesOf "\n" ++ m ++ bytesOf "\n") × (length l ≤ 100) × (length m ≤ 100)
+wide-lines = columns.two-lines

@@ -1,0 +1,3 @@
+-- The definitions of `run_lines`. What is proved of them: proofs/Promises.antt.
+pub mod Outcome
+mod Examples

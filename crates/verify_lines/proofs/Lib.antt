@@ -1,0 +1,7 @@
+-- `Promises` is the page for users of this crate; the others hold the work behind it.
+pub mod Promises
+mod Answering
+mod Lines
+mod Rows
+mod Sizes
+mod Back

@@ -1,6 +1,0 @@
--- `Promises` is the page for users of this crate; the others hold the work behind it.
-mod Leading
-mod Numbering
-mod Same
-mod Wording
-pub mod Promises

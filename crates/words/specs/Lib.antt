@@ -1,4 +1,0 @@
--- The definitions of `words`, in the order to read them.
-pub mod Words
-pub mod Numbers
-mod Examples
