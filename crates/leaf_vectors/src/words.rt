@@ -5,7 +5,7 @@ use crate::text::append_broken;
 use crate::text::append_number;
 use crate::text::append_refused;
 
-pub enum Outcome {
+pub enum WordAnswer {
     Result(u64),
     DividedByZero,
     Unknown,
@@ -22,51 +22,51 @@ fn quotient(opcode: u64, a: u64, b: u64) -> u64
     }
 }
 
-fn divided(opcode: u64, a: u64, b: u64) -> Outcome {
+fn divided(opcode: u64, a: u64, b: u64) -> WordAnswer {
     if b == 0 {
-        return Outcome::DividedByZero;
+        return WordAnswer::DividedByZero;
     }
-    Outcome::Result(quotient(opcode, a, b))
+    WordAnswer::Result(quotient(opcode, a, b))
 }
 
-fn extended(a: u64, n: u64) -> Outcome {
+fn extended(a: u64, n: u64) -> WordAnswer {
     if n == 0 {
-        return Outcome::Unknown;
+        return WordAnswer::Unknown;
     }
-    Outcome::Result(arithmetic::ext(a, n))
+    WordAnswer::Result(arithmetic::ext(a, n))
 }
 
-fn bits(opcode: u64, a: u64, b: u64) -> Outcome {
+fn bits(opcode: u64, a: u64, b: u64) -> WordAnswer {
     match opcode {
-        0x0f => Outcome::Result(arithmetic::bit_and(a, b)),
-        0x10 => Outcome::Result(arithmetic::bit_or(a, b)),
-        0x11 => Outcome::Result(arithmetic::bit_xor(a, b)),
-        0x12 => Outcome::Result(arithmetic::bit_not(a)),
+        0x0f => WordAnswer::Result(arithmetic::bit_and(a, b)),
+        0x10 => WordAnswer::Result(arithmetic::bit_or(a, b)),
+        0x11 => WordAnswer::Result(arithmetic::bit_xor(a, b)),
+        0x12 => WordAnswer::Result(arithmetic::bit_not(a)),
         0x16 => extended(a, b),
-        0x2a => Outcome::Result(arithmetic::zero_ext(a, b)),
-        _ => Outcome::Unknown,
+        0x2a => WordAnswer::Result(arithmetic::zero_ext(a, b)),
+        _ => WordAnswer::Unknown,
     }
 }
 
-fn compared(opcode: u64, a: u64, b: u64) -> Outcome {
+fn compared(opcode: u64, a: u64, b: u64) -> WordAnswer {
     match opcode {
-        0x0e => Outcome::Result(arithmetic::log_not(a)),
-        0x13 => Outcome::Result(arithmetic::equal(a, b)),
-        0x14 => Outcome::Result(arithmetic::less_signed(a, b)),
-        0x15 => Outcome::Result(arithmetic::less_unsigned(a, b)),
+        0x0e => WordAnswer::Result(arithmetic::log_not(a)),
+        0x13 => WordAnswer::Result(arithmetic::equal(a, b)),
+        0x14 => WordAnswer::Result(arithmetic::less_signed(a, b)),
+        0x15 => WordAnswer::Result(arithmetic::less_unsigned(a, b)),
         _ => bits(opcode, a, b),
     }
 }
 
-fn computed(opcode: u64, a: u64, b: u64) -> Outcome {
+fn computed(opcode: u64, a: u64, b: u64) -> WordAnswer {
     match opcode {
-        0x02 => Outcome::Result(arithmetic::add(a, b)),
-        0x03 => Outcome::Result(arithmetic::sub(a, b)),
-        0x04 => Outcome::Result(arithmetic::mul(a, b)),
+        0x02 => WordAnswer::Result(arithmetic::add(a, b)),
+        0x03 => WordAnswer::Result(arithmetic::sub(a, b)),
+        0x04 => WordAnswer::Result(arithmetic::mul(a, b)),
         0x05..=0x08 => divided(opcode, a, b),
-        0x09 => Outcome::Result(arithmetic::lsh(a, b)),
-        0x0a => Outcome::Result(arithmetic::rsh_signed(a, b)),
-        0x0b => Outcome::Result(arithmetic::rsh_unsigned(a, b)),
+        0x09 => WordAnswer::Result(arithmetic::lsh(a, b)),
+        0x0a => WordAnswer::Result(arithmetic::rsh_signed(a, b)),
+        0x0b => WordAnswer::Result(arithmetic::rsh_unsigned(a, b)),
         _ => compared(opcode, a, b),
     }
 }
@@ -75,8 +75,8 @@ pub fn append_word(out: &mut [u8], opcode: u64, a: u64, b: u64) -> usize
     ensures { λ r. ⌜ Counts r (now (out .exit)) ⌝ }
 {
     match computed(opcode, a, b) {
-        Outcome::Result(word) => append_number(out, 0, word),
-        Outcome::DividedByZero => append_refused(out, 17),
-        Outcome::Unknown => append_broken(out),
+        WordAnswer::Result(word) => append_number(out, 0, word),
+        WordAnswer::DividedByZero => append_refused(out, 17),
+        WordAnswer::Unknown => append_broken(out),
     }
 }
