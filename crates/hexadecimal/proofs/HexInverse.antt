@@ -9,7 +9,7 @@ use lib.Dec.{leb, lit<}
 use lib.ListN.{length}
 use borrow.Author.Tests.{leb-true}
 use Rattle.io.specs.Digits.{glyph}
-use Rattle.hexadecimal.specs.Hex.{isBetween, digitOf, isLower, allLower, Reading, whole, withBytes, readFrom, pairOf, hexOf}
+use Rattle.hexadecimal.specs.Hex.{isBetween, digitOf, isLower, allLower, HexReading, whole, withBytes, readFrom, pairOf, hexOf}
 use Rattle.hexadecimal.proofs.Hexing.{inside, above}
 use Rattle.hexadecimal.proofs.HexWriting.{glyph-low, glyph-high, pair-is, pair-read}
 
@@ -61,7 +61,7 @@ lower-pair a b p q =
     (q .1 ∙ ap glyph (sym (low-part (digitOf a) (digitOf b) (q .0))))
 
 -- ---- the whole text, two characters at a time
-abbrev Back : List ℕ → Reading → Type 0
+abbrev Back : List ℕ → HexReading → Type 0
 Back t r = (r .end ≡ whole) × (hexOf (r .bytes) ≡ t)
 
 back-pair : (p room x : ℕ) (t : List ℕ) → x < 256 → Back t (readFrom (p + 2) room t) → Back (pairOf x ++ t) (readFrom p (suc room) (pairOf x ++ t))
@@ -69,7 +69,7 @@ unfolding hexOf
 back-pair p room x t h b =
     let r = readFrom (p + 2) room t in
     let e : readFrom p (suc room) (pairOf x ++ t) ≡ withBytes (x ∷ []) r = pair-read p room x t h in
-    (ap (λ (s : Reading). s .end) e ∙ b .0, ap (λ (s : Reading). hexOf (s .bytes)) e ∙ ap (λ (m : List ℕ). pairOf x ++ m) (b .1))
+    (ap (λ (s : HexReading). s .end) e ∙ b .0, ap (λ (s : HexReading). hexOf (s .bytes)) e ∙ ap (λ (m : List ℕ). pairOf x ++ m) (b .1))
 
 pub write-back : (p room n : ℕ) (t : List ℕ) → allLower t ≡ true → length t ≡ 2 * n → n ≤ room → Back t (readFrom p room t)
 unfolding allLower hexOf readFrom

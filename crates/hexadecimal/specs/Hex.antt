@@ -51,20 +51,20 @@ pub data End : Type 0 where
   full : End
 
 -- the bytes that were read, and why no more
-pub record Reading : Type 0 where
+pub record HexReading : Type 0 where
   pub bytes : List ℕ
   pub end : End
 
-abbrev pub stopped : End → Reading
+abbrev pub stopped : End → HexReading
 stopped e = record { bytes = []; end = e }
 
 -- the bytes l come before those of a reading
-abbrev pub withBytes : List ℕ → Reading → Reading
+abbrev pub withBytes : List ℕ → HexReading → HexReading
 withBytes l r = record { bytes = l ++ r .bytes; end = r .end }
 
 -- a reading by its first token, with room for so many bytes: a is the reading past a blank, and b that past a byte,
 -- with the room that is left
-abbrev pub byToken : Token → ℕ → Reading → (ℕ → Reading) → Reading
+abbrev pub byToken : Token → ℕ → HexReading → (ℕ → HexReading) → HexReading
 byToken Blank room a b = a
 byToken (Wrong p) room a b = stopped (wrong p)
 byToken Single room a b = stopped single
@@ -72,12 +72,12 @@ byToken (Byte x) zero a b = stopped full
 byToken (Byte x) (suc room) a b = withBytes (x ∷ []) (b room)
 
 -- the reading of a text whose first character has the position p, with room for so many bytes
-unfoldable pub readFrom : ℕ → ℕ → List ℕ → Reading
+unfoldable pub readFrom : ℕ → ℕ → List ℕ → HexReading
 readFrom p room [] = stopped whole
 readFrom p room (c ∷ []) = byToken (tokenOf p (c ∷ [])) room (stopped whole) (λ _. stopped whole)
 readFrom p room (c ∷ d ∷ t) = byToken (tokenOf p (c ∷ d ∷ t)) room (readFrom (p + 1) room (d ∷ t)) (λ r. readFrom (p + 2) r t)
 
-abbrev pub readingOf : List ℕ → ℕ → Reading
+abbrev pub readingOf : List ℕ → ℕ → HexReading
 readingOf text room = readFrom 0 room text
 
 -- the answer to a text that was read
@@ -87,11 +87,11 @@ answerFor l (wrong p) = NotHex p
 answerFor l single = Odd
 answerFor l full = TooLong
 
-abbrev pub hexAnswerOf : Reading → HexAnswer
+abbrev pub hexAnswerOf : HexReading → HexAnswer
 hexAnswerOf r = answerFor (r .bytes) (r .end)
 
 -- the buffer o with the bytes that were read at its start
-abbrev pub writtenOver : List ℕ → Reading → List ℕ
+abbrev pub writtenOver : List ℕ → HexReading → List ℕ
 writtenOver o r = r .bytes ++ drop (length (r .bytes)) o
 
 -- ---- written: a byte as two digits, in lower case

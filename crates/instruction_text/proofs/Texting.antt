@@ -21,8 +21,8 @@ use Rattle.isa.proofs.Promises.{operands-most}
 use Rattle.text_buffer.proofs.Promises.{decimal-some, decimal-most, decimal-least, decimal-length}
 use Rattle.instruction_text.specs.Names.{nameOf}
 use Rattle.instruction_text.specs.Text.{signedText, aligned, operandText, textOf, textAt, namedAt, isInstruction, plainAt, writtenAnswer, writtenLeft}
-use Rattle.instruction_text.specs.declared.writing.Written.{Written}
-use Rattle.instruction_text.specs.declared.writing.Written.the-variants.{Text as Written·text, NoInstruction, NoRoom}
+use Rattle.instruction_text.specs.declared.writing.TextAnswer.{TextAnswer}
+use Rattle.instruction_text.specs.declared.writing.TextAnswer.the-variants.{Text as TextAnswer·text, NoInstruction, NoRoom}
 use Rattle.instruction_text.proofs.Opcodes.{name-length}
 
 -- ---- an offset, in three columns
@@ -194,8 +194,8 @@ plain-length e low k h =
     ]
 
 -- ---- `write_instruction`
-abbrev pub Writes : List ℕ → ℕ → List ℕ → Written → List ℕ → Type 0
-Writes e k o r o' = (r ≡ writtenAnswer e k o) × ((o' ≡ writtenLeft e k o) × ((n : ℕ) → r ≡ Written·text n → n ≤ length o'))
+abbrev pub Writes : List ℕ → ℕ → List ℕ → TextAnswer → List ℕ → Type 0
+Writes e k o r o' = (r ≡ writtenAnswer e k o) × ((o' ≡ writtenLeft e k o) × ((n : ℕ) → r ≡ TextAnswer·text n → n ≤ length o'))
 
 module _ (e : List ℕ) (k : ℕ) (o : List ℕ) where
   pub writes-none : (b : Bool) → b ≡ isInstruction e k → b ≡ false → Writes e k o NoInstruction o
@@ -215,7 +215,7 @@ module _ (e : List ℕ) (k : ℕ) (o : List ℕ) where
         let l = lt-leb (length (textAt e k)) (length o) (omega (arith, all-of-it)) in
         (rw (q, l), (rw (q, l), λ n z. absurd (let z : _≡_ {A = ℕ} 0 1 = cc in omega arith)))
 
-    pub writes-text : r ≤ length o → (o' : List ℕ) → o' ≡ writtenAt o 0 (take (r - 0) line) → Writes e k o (Written·text r) o'
+    pub writes-text : r ≤ length o → (o' : List ℕ) → o' ≡ writtenAt o 0 (take (r - 0) line) → Writes e k o (TextAnswer·text r) o'
     unfolding writtenLeft writtenAnswer
     writes-text h o' w =
         let q : isInstruction e k ≡ true = sym is ∙ t in
@@ -223,4 +223,4 @@ module _ (e : List ℕ) (k : ℕ) (o : List ℕ) where
         let l = le-leb (length (textAt e k)) (length o) (omega (arith, a)) in
         let z : r - 0 ≡ r = omega arith in
         let m : take (r - 0) line ≡ textAt e k = ap (λ (j : ℕ). take j line) z ∙ x .same ∙ take-all r (textAt e k) (omega (arith, a)) in
-        (rw (q, l) (ap Written·text a), (rw (q, l) (w ∙ ap (writtenAt o 0) m), λ n y. let same : r ≡ n = cc in omega (arith, ap length w, written-length o 0 (take (r - 0) line))))
+        (rw (q, l) (ap TextAnswer·text a), (rw (q, l) (w ∙ ap (writtenAt o 0) m), λ n y. let same : r ≡ n = cc in omega (arith, ap length w, written-length o 0 (take (r - 0) line))))

@@ -9,8 +9,8 @@ use Rattle.isa.specs.Classes.{kind-unsupported}
 use Rattle.isa.specs.Decode.{kindAt, operandBytes, operand, next}
 use Rattle.instruction_text.specs.Names.{nameOf}
 use Rattle.text_buffer.specs.Decimal.{decimal}
-use Rattle.instruction_text.specs.declared.writing.Written.{Written}
-use Rattle.instruction_text.specs.declared.writing.Written.the-variants.{Text, NoInstruction, NoRoom}
+use Rattle.instruction_text.specs.declared.writing.TextAnswer.{TextAnswer}
+use Rattle.instruction_text.specs.declared.writing.TextAnswer.the-variants.{Text, NoInstruction, NoRoom}
 
 -- in three columns, or as many as it needs
 unfoldable pub aligned : List ℕ → List ℕ
@@ -43,10 +43,10 @@ unfoldable pub plainAt : List ℕ → ℕ → List ℕ
 plainAt e k = cond (isInstruction e k) (namedAt e k) []
 
 -- ---- `write_instruction`: its answer, and the buffer o that it leaves
-unfoldable pub writtenAnswer : List ℕ → ℕ → List ℕ → Written
+unfoldable pub writtenAnswer : List ℕ → ℕ → List ℕ → TextAnswer
 writtenAnswer e k o = cond (isInstruction e k) (cond (leb (length (textAt e k)) (length o)) (Text (length (textAt e k))) NoRoom) NoInstruction
 
-abbrev pub writtenBy : Written → List ℕ → ℕ → List ℕ → List ℕ
+abbrev pub writtenBy : TextAnswer → List ℕ → ℕ → List ℕ → List ℕ
 writtenBy (Text n) e k o = writtenAt o 0 (textAt e k)
 writtenBy NoInstruction e k o = o
 writtenBy NoRoom e k o = o

@@ -11,7 +11,7 @@ use text_buffer::append;
 use text_buffer::append_number;
 
 // A text of so many bytes was written; there is no instruction; or the buffer has no room for the text.
-pub enum Written {
+pub enum TextAnswer {
     Text(usize),
     NoInstruction,
     NoRoom,
@@ -101,19 +101,19 @@ fn append_instruction(out: &mut [u8], code: &[u8], at: usize) -> usize
 }
 
 // Puts the text of the instruction at offset `at` at the start of `out`.
-pub fn write_instruction(code: &[u8], at: usize, out: &mut [u8]) -> Written
+pub fn write_instruction(code: &[u8], at: usize, out: &mut [u8]) -> TextAnswer
     ensures answer { λ r. ⌜ r ≡ writtenAnswer (now (code .entry)) at (now (out .entry)) ⌝ }
     ensures text { λ _. ⌜ now (out .exit) ≡ writtenLeft (now (code .entry)) at (now (out .entry)) ⌝ }
-    ensures within { λ r. ⌜ ((n : ℕ) → r ≡ Written.Text n → n ≤ length (now (out .exit))) ⌝ }
+    ensures within { λ r. ⌜ ((n : ℕ) → r ≡ TextAnswer.Text n → n ≤ length (now (out .exit))) ⌝ }
 {
     if !is_instruction(code, at) {
-        return Written::NoInstruction;
+        return TextAnswer::NoInstruction;
     }
     let mut line = [0u8; 64];
     let n = append_instruction(&mut line, code, at);
     if out.len() < n {
-        return Written::NoRoom;
+        return TextAnswer::NoRoom;
     }
     encoding::put_bytes(out, 0, &line[0..n]);
-    Written::Text(n)
+    TextAnswer::Text(n)
 }

@@ -149,7 +149,7 @@ module _ (t : List ℕ) (i n : ℕ) (more : i < length t) (c : Counted (isNot 10
       }
 
 -- ---- the loop of `read_listing`: the text t from place i on is left to be read, from line n on, and the buffer was o₀
-pub record Reading (t o₀ : List ℕ) (i n at : ℕ) (o : List ℕ) : Type 0 where
+pub record ListingTurn (t o₀ : List ℕ) (i n at : ℕ) (o : List ℕ) : Type 0 where
   pub inside : i ≤ length t
   pub few : n ≤ i + 1
   pub room : at ≤ length o
@@ -160,11 +160,11 @@ pub record Reading (t o₀ : List ℕ) (i n at : ℕ) (o : List ℕ) : Type 0 wh
 abbrev pub Reads : List ℕ → List ℕ → ListingRead → List ℕ → Type 0
 Reads t o₀ r o = (r ≡ outcome t o₀ .answer) × ((o ≡ outcome t o₀ .left) × ((n : ℕ) → r ≡ Bytes n → n ≤ length o))
 
-pub reading-start : (t o : List ℕ) → Reading t o 0 1 0 o
+pub reading-start : (t o : List ℕ) → ListingTurn t o 0 1 0 o
 unfolding outcome
 reading-start t o = record { inside = omega arith; few = omega arith; room = omega arith; same = refl; rest = refl }
 
-module _ {t o₀ : List ℕ} {i n at : ℕ} {o : List ℕ} (g : Reading t o₀ i n at o) where
+module _ {t o₀ : List ℕ} {i n at : ℕ} {o : List ℕ} (g : ListingTurn t o₀ i n at o) where
   pub reading-end : length t ≤ i → Reads t o₀ (Bytes at) o
   unfolding outcomeFrom linesOf
   reading-end h =
@@ -177,7 +177,7 @@ module _ {t o₀ : List ℕ} {i n at : ℕ} {o : List ℕ} (g : Reading t o₀ i
     unfolding outcomeFrom
     after = rw (answer, bytes) (sym (ap (outcomeFrom n at o) (is .first-is)) ∙ g .rest)
 
-    pub reading-on : (k : ℕ) → r ≡ LineRead·bytes k → at + k ≤ length o' → length o' ≡ length o → Reading t o₀ j (n + 1) (at + k) o'
+    pub reading-on : (k : ℕ) → r ≡ LineRead·bytes k → at + k ≤ length o' → length o' ≡ length o → ListingTurn t o₀ j (n + 1) (at + k) o'
     reading-on k e h s = record { inside = is .within; few = omega (arith, g .few, is .more); room = h; same = s ∙ g .same; rest = rw e at after }
 
     pub reading-full : r ≡ LineRead·noRoom → Reads t o₀ (NoRoom n) o'

@@ -13,7 +13,7 @@ ghost use Rattle.isa.specs.Walk.{one};
 ghost use Rattle.verdict.specs.Pass1.{Decodes};
 ghost use Rattle.verdict.specs.Pass2.{Aims};
 ghost use Rattle.verdict.specs.Pass3.{unreached, differing, joined, arrive, raise, runsOff, pass3};
-ghost use Rattle.passes.specs.joining.Tables.{measureOf, Unmeasured, Incoming, Standing, Reached, Halting, Effected, Brings, ReachedStep, Turned};
+ghost use Rattle.passes.specs.joining.Tables.{measureOf, Unmeasured, Incoming, Standing, ReachedStart, Halting, Effected, Brings, ReachedStep, Turned};
 use crate::brought;
 use crate::brought::Flow;
 use isa::Row;
@@ -117,7 +117,7 @@ fn step_jump(
     heights: &mut [u8],
     distances: &mut [u16],
 ) -> Carry
-    requires { ⌜ Reached (now e) at (s .height) (s .distance) (now heights) (now distances) ⌝ ∗ ⌜ (kind-goto ≤ kindAt (now e) at) × (kindAt (now e) at ≤ kind-if-goto) × (row .needed ≡ neededCells (now e) at) × (row .left ≡ leftCells (now e) at) × («is_off» ≡ runsOff (now e) at) ⌝ }
+    requires { ⌜ ReachedStart (now e) at (s .height) (s .distance) (now heights) (now distances) ⌝ ∗ ⌜ (kind-goto ≤ kindAt (now e) at) × (kindAt (now e) at ≤ kind-if-goto) × (row .needed ≡ neededCells (now e) at) × (row .left ≡ leftCells (now e) at) × («is_off» ≡ runsOff (now e) at) ⌝ }
     ensures { λ r. ⌜ Effected (now (e .entry)) at (s .height) (s .distance) (s .greatest) (s .longest) r × Brings (now (e .entry)) at (s .height) (s .distance) r (now (heights .entry)) (now (distances .entry)) (now (heights .exit)) (now (distances .exit)) ⌝ }
 {
     let after = effect_by(
@@ -145,7 +145,7 @@ fn step_other(
     heights: &mut [u8],
     distances: &mut [u16],
 ) -> Carry
-    requires { ⌜ Reached (now e) at (s .height) (s .distance) (now heights) (now distances) ⌝ ∗ ⌜ (next ≡ nextStart (now e) at) × (kind ≡ kindAt (now e) at) × (kind-pick ≤ kind) ⌝ }
+    requires { ⌜ ReachedStart (now e) at (s .height) (s .distance) (now heights) (now distances) ⌝ ∗ ⌜ (next ≡ nextStart (now e) at) × (kind ≡ kindAt (now e) at) × (kind-pick ≤ kind) ⌝ }
     ensures { λ r. ⌜ ReachedStep (now (e .entry)) at (s .height) (s .distance) (s .greatest) (s .longest) r (now (heights .entry)) (now (distances .entry)) (now (heights .exit)) (now (distances .exit)) ⌝ }
 {
     let is_off = e.len() <= next;
@@ -182,7 +182,7 @@ fn step_reached(
     heights: &mut [u8],
     distances: &mut [u16],
 ) -> Carry
-    requires { ⌜ now rows ≡ table ⌝ ∗ ⌜ opcode ≡ getD (now e) at 0 ⌝ ∗ ⌜ Reached (now e) at (s .height) (s .distance) (now heights) (now distances) ⌝ ∗ ⌜ next ≡ nextStart (now e) at ⌝ }
+    requires { ⌜ now rows ≡ table ⌝ ∗ ⌜ opcode ≡ getD (now e) at 0 ⌝ ∗ ⌜ ReachedStart (now e) at (s .height) (s .distance) (now heights) (now distances) ⌝ ∗ ⌜ next ≡ nextStart (now e) at ⌝ }
     ensures { λ r. ⌜ ReachedStep (now (e .entry)) at (s .height) (s .distance) (s .greatest) (s .longest) r (now (heights .entry)) (now (distances .entry)) (now (heights .exit)) (now (distances .exit)) ⌝ }
 {
     let kind = isa::column(rows, opcode, 3);

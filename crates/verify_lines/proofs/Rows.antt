@@ -22,8 +22,8 @@ use Rattle.isa.proofs.Promises.{from-end, from-next}
 use Rattle.verdict.specs.Verdict.{Verdict}
 use Rattle.instruction_text.specs.Text.{textAt, isInstruction, writtenAnswer, writtenLeft}
 use Rattle.listing.specs.Listing.{joinedLines}
-use Rattle.instruction_text.specs.declared.writing.Written.{Written}
-use Rattle.instruction_text.specs.declared.writing.Written.the-variants.{Text}
+use Rattle.instruction_text.specs.declared.writing.TextAnswer.{TextAnswer}
+use Rattle.instruction_text.specs.declared.writing.TextAnswer.the-variants.{Text}
 use Rattle.instruction_text.proofs.Promises.{text-length, instruction-inside}
 use Rattle.verify_lines.specs.Verdict.{verdictText, heightText}
 use Rattle.verify_lines.specs.Listed.{gapText, besideText, rowText, isListed, firstOf, listedText, isAccepted, answerText}
@@ -66,7 +66,7 @@ module _ (e : List ℕ) (low : AllBytes e) (k : ℕ) (h : k < 2 ^ 64) (i : isIns
   unfolding writtenAnswer
   written-whole = rw (i, le-leb (length (textAt e k)) (length o) (omega (arith, text-length e low k h, room)))
 
-  pub written-text : (r : Written) (o' : List ℕ) → r ≡ writtenAnswer e k o → o' ≡ writtenLeft e k o → (n : ℕ) → r ≡ Text n → take (n - 0) o' ≡ textAt e k
+  pub written-text : (r : TextAnswer) (o' : List ℕ) → r ≡ writtenAnswer e k o → o' ≡ writtenLeft e k o → (n : ℕ) → r ≡ Text n → take (n - 0) o' ≡ textAt e k
   unfolding writtenLeft
   written-text r o' p q n t =
       let l = length (textAt e k) in

@@ -12,7 +12,7 @@ ghost use Rattle.heights.specs.Arrivals.{ArrivalsBy};
 ghost use Rattle.verify_lines.specs.Listed.{gapText, besideText, rowText, isListed, isAccepted, listedText, answerText};
 use crate::verdict_line::append_height;
 use crate::verdict_line::append_verdict;
-use instruction_text::writing::Written;
+use instruction_text::writing::TextAnswer;
 use instruction_text::writing::is_instruction;
 use instruction_text::writing::write_instruction;
 use text_buffer::append;
@@ -57,7 +57,7 @@ fn append_row(
 {
     let mut line = [0u8; 64];
     match write_instruction(code, offset, &mut line) {
-        Written::Text(n) => {
+        TextAnswer::Text(n) => {
             if is_accepted {
                 return append_beside(out, at, &line[0..n], height);
             }

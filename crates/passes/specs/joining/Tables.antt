@@ -113,7 +113,7 @@ pub record Standing (e : List ℕ) (k h d : ℕ) (hs ds : List ℕ) : Type 0 whe
   pub distances-long : length e ≤ length ds
 
 -- the start k is reached with height h, after d instructions
-pub record Reached (e : List ℕ) (k h d : ℕ) (hs ds : List ℕ) : Type 0 where
+pub record ReachedStart (e : List ℕ) (k h d : ℕ) (hs ds : List ℕ) : Type 0 where
   pub passing : Passing e k
   pub small : h < 256
   pub same : h ≢ differing

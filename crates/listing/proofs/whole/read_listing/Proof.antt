@@ -3,12 +3,12 @@ use borrow.Author.Needs.{needs}
 use native.Mathlib.Omega.{arith}
 use Prim.Native.Nat.{_-_}
 use lib.ListN.{length}
-use Rattle.listing.proofs.Dividing.{Reading, reading-start, reading-on, reading-full, reading-wrong, reading-end}
+use Rattle.listing.proofs.Dividing.{ListingTurn, reading-start, reading-on, reading-full, reading-wrong, reading-end}
 use Rattle.listing.proofs.whole.read_listing.Statement.{statement}
 use Rattle.listing.proofs.whole.read_listing.Tie as tie
 
 abbrev Inv-loop : tie.InvT-loop
-Inv-loop text out₀ start₀ line₀ at₀ out start line at = Reading text out₀ start line at out
+Inv-loop text out₀ start₀ line₀ at₀ out start line at = ListingTurn text out₀ start line at out
 
 abbrev μ-loop : tie.MeasureT-loop
 μ-loop text out₀ start₀ line₀ at₀ out start line at = length text - start
