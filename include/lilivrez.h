@@ -6,9 +6,10 @@
  *     lilivrez_agent.h      liblilivrez_agent.a      the unit: fetches from target memory, and runs
  *     lilivrez_frames.h     liblilivrez_frames.a     lab and desk: the frames that runs have recorded, read back
  *
- * Each archive is whole by itself, and they can be linked together in any order. The rules are in docs/document-01.md.
+ * Each archive is whole by itself, and they can be linked together in any order. The rules that the comments speak of
+ * are docs/document-01.md of the sources.
  *
- * What holds of every function of all three:
+ * What holds of every function of all three, but for those that tell a version:
  *
  *  - It returns the number of a refusal, or 0. What it tells besides it stores in `out`, an array of fixed size. An
  *    enum names the places of that array; a place that does not apply holds 0. Every place is stored by every call.
@@ -25,7 +26,17 @@
  *  - It allocates nothing, keeps no pointer and has no state: it may be called from several threads at once.
  *  - It needs memcpy, memmove and memset, which the compiler calls by itself, and no other function. It uses less than
  *    8 KB of stack.
- *  - The archives are machine code for x86-64 with the System V calling convention (Linux). They use SSE registers.
+ *  - The archives are machine code for x86-64 with the System V calling convention (Linux), and may be placed at any
+ *    address. What that convention asks of a caller is owed in a kernel and in firmware too: at the call instruction
+ *    the stack pointer is a multiple of 16 (not so in code that gcc compiles with -mpreferred-stack-boundary=3), and
+ *    the direction flag is clear. SSE is on, since XMM registers are used (CR4.OSFXSR is set, CR0.EM and CR0.TS are
+ *    clear): an interrupt handler that calls a function saves them first. The 128 bytes below the stack pointer are
+ *    used as well (the red zone): an interrupt during a call is taken on another stack, or leaves them as they are.
+ *
+ * Each function has a second form, inline, in the same header under "by name": it takes structs, and returns one. A
+ * field has its name beside it, and where two pointers that are passed change places the compiler says so; in the plain
+ * calls, where numbers and pointers go by their position, it does not. The second form calls the first and adds nothing
+ * to it, and it takes no room in a program that does not use it.
  */
 #ifndef LILIVREZ_H
 #define LILIVREZ_H
@@ -41,6 +52,16 @@
 extern "C" {
 #endif
 
+/*
+ * The version of these headers. Each archive tells its own (lilivrez_verifier_version, lilivrez_agent_version,
+ * lilivrez_frames_version) as LILIVREZ_VERSION_NUMBER does: major * 10000 + minor * 100 + patch.
+ */
+#define LILIVREZ_VERSION "0.2.0"
+#define LILIVREZ_VERSION_MAJOR 0
+#define LILIVREZ_VERSION_MINOR 2
+#define LILIVREZ_VERSION_PATCH 0
+#define LILIVREZ_VERSION_NUMBER (LILIVREZ_VERSION_MAJOR * 10000 + LILIVREZ_VERSION_MINOR * 100 + LILIVREZ_VERSION_PATCH)
+
 /* The limits of document 01, "Sizes". */
 enum {
     LILIVREZ_EXPRESSION_BYTES = 1024, /* an expression has 1 to so many bytes */
@@ -48,6 +69,16 @@ enum {
     LILIVREZ_REGISTERS = 256,         /* at most so many registers are lent */
     LILIVREZ_VARIABLES = 64,          /* trace state variables */
     LILIVREZ_BUFFER_BYTES = 65536     /* at most so many bytes has a trace buffer */
+};
+
+/* A frame is its records and, behind them, a trailer of so many bytes (document 01, "Frames"). */
+enum { LILIVREZ_TRAILER_BYTES = 8 };
+
+/* A trace buffer, for the calls by name: of its `length` bytes the first `used` are frames already recorded. */
+struct lilivrez_trace {
+    uint8_t *buffer;
+    size_t length;
+    size_t used;
 };
 
 /* The numbers that the functions return. The words are those of document 01's table. */

@@ -1,7 +1,8 @@
 /*
  * The C boundary of the static libraries: zero lengths with and without NULL, slices that end or begin beside memory that
  * faults (the sanitizers do not see inside the archives), random inputs. What is checked here needs no evaluator: every place
- * of `out`, what must stay as it was, the trailer, and that the four functions that read frames agree with each other.
+ * of `out`, what must stay as it was, the trailer, that the five functions that read frames agree with each other, and that
+ * the calls by name tell the same as the plain ones.
  */
 #define _DEFAULT_SOURCE
 #include <inttypes.h>
@@ -18,7 +19,7 @@
 #define MOST (LILIVREZ_BUFFER_BYTES + 4096)
 #define REFUSALS 26
 
-static unsigned long met[REFUSALS], met_reading[REFUSALS];
+static unsigned long met[REFUSALS], evaluated[REFUSALS], met_reading[REFUSALS], met_next[REFUSALS];
 
 #define CHECK(fact)                                                              \
     do {                                                                         \
@@ -135,7 +136,10 @@ static uint32_t check_verify(const uint8_t *e, size_t n, uint64_t out[LILIVREZ_V
 {
     memset(out, 0xa5, LILIVREZ_VERIFY_PLACES * sizeof out[0]);
     uint32_t number = lilivrez_verify(e, n, out);
+    struct lilivrez_verdict v = lilivrez_verdict_of(e, n);
 
+    CHECK(v.refusal == number && v.offset == out[LILIVREZ_VERIFY_OFFSET] && v.instructions == out[LILIVREZ_VERIFY_COUNT]);
+    CHECK(v.greatest_height == out[LILIVREZ_VERIFY_HEIGHT] && v.longest_walk == out[LILIVREZ_VERIFY_WALK]);
     CHECK(number <= LILIVREZ_REFUSED_RUNS_OFF);
     if (number == LILIVREZ_NOT_REFUSED) {
         CHECK(out[LILIVREZ_VERIFY_OFFSET] == 0);
@@ -156,6 +160,18 @@ struct given {
     uint64_t *registers, *variables, image_first, work_first;
     uint16_t tracepoint;
 };
+
+static struct lilivrez_target target_of(const struct given *g)
+{
+    struct lilivrez_target target = {
+        .registers = g->registers,
+        .register_count = g->count,
+        .image = {.first = g->image_first, .bytes = g->image, .length = g->image_length},
+        .work = {.first = g->work_first, .bytes = g->work, .length = g->work_length},
+    };
+
+    return target;
+}
 
 static void make_spans(struct given *g)
 {
@@ -221,6 +237,43 @@ static void check_refused(const struct given *g, uint32_t number, const uint8_t 
     }
 }
 
+/* The call by name on what the plain call was given, `before` and `variables`, ends as the plain call did: `number`, `out`. */
+static void check_run_on(const struct given *g, uint64_t allowance, int is_default, const uint8_t *before, const uint64_t *variables,
+                         uint32_t number, const uint64_t *out)
+{
+    static uint8_t buffer[MOST];
+    uint64_t mine[LILIVREZ_VARIABLES];
+    struct lilivrez_tracepoint tracepoint = {.number = g->tracepoint, .expression = g->expression, .length = g->length};
+    struct lilivrez_target target = target_of(g);
+    struct lilivrez_trace trace = {.buffer = buffer, .length = g->buffer_length, .used = g->used};
+
+    memcpy(buffer, before, g->buffer_length);
+    memcpy(mine, variables, sizeof mine);
+    struct lilivrez_outcome o = is_default ? lilivrez_run_on(&tracepoint, &target, mine, &trace)
+                                           : lilivrez_run_on_within(&tracepoint, &target, mine, &trace, allowance);
+    CHECK(o.refusal == number && o.offset == out[LILIVREZ_RUN_OFFSET] && o.steps == out[LILIVREZ_RUN_STEPS]);
+    CHECK(o.cells == out[LILIVREZ_RUN_CELLS] && o.top == out[LILIVREZ_RUN_TOP] && o.beneath == out[LILIVREZ_RUN_BENEATH]);
+    CHECK(trace.buffer == buffer && trace.length == g->buffer_length && trace.used == out[LILIVREZ_RUN_USED]);
+    CHECK(memcmp(mine, g->variables, sizeof mine) == 0);
+    CHECK(g->buffer_length == 0 || memcmp(buffer, g->buffer, g->buffer_length) == 0);
+}
+
+/* As a condition, on 8 bytes of scratch: no room is short but for a record, and the answer is that of the run. */
+static void check_evaluate_on(const struct given *g, const uint64_t *variables, uint32_t number, const uint64_t *out)
+{
+    uint64_t mine[LILIVREZ_VARIABLES];
+    struct lilivrez_target target = target_of(g);
+
+    memcpy(mine, variables, sizeof mine);
+    struct lilivrez_outcome o = lilivrez_evaluate_on(g->expression, g->length, &target, mine);
+    evaluated[o.refusal]++;
+    if (number == LILIVREZ_REFUSED_BUFFER_BAD || number == LILIVREZ_REFUSED_BUFFER_FULL || o.refusal == LILIVREZ_REFUSED_BUFFER_FULL)
+        return;
+    CHECK(o.refusal == number && o.offset == out[LILIVREZ_RUN_OFFSET] && o.steps == out[LILIVREZ_RUN_STEPS]);
+    CHECK(o.cells == out[LILIVREZ_RUN_CELLS] && o.top == out[LILIVREZ_RUN_TOP] && o.beneath == out[LILIVREZ_RUN_BENEATH]);
+    CHECK(memcmp(mine, g->variables, sizeof mine) == 0);
+}
+
 static uint32_t check_run(const struct given *g, uint64_t allowance, int is_default, uint64_t *out)
 {
     uint8_t *before = befores.first;
@@ -246,6 +299,9 @@ static uint32_t check_run(const struct given *g, uint64_t allowance, int is_defa
         check_completed(g, before, out);
     else
         check_refused(g, number, before, variables, out);
+    check_run_on(g, allowance, is_default, before, variables, number, out);
+    if (is_default)
+        check_evaluate_on(g, variables, number, out);
     return number;
 }
 
@@ -285,6 +341,12 @@ static void check_fetch(void)
     uint32_t number = lilivrez_fetch(g.image_first, g.image, g.image_length, g.work_first, g.work, g.work_length, address, size, out);
     uint64_t index = out[LILIVREZ_FETCH_INDEX];
 
+    g.registers = NULL;
+    g.count = 0;
+    struct lilivrez_target target = target_of(&g);
+    struct lilivrez_fetched f = lilivrez_fetch_from(&target, address, size);
+    CHECK(f.refusal == number && f.span == out[LILIVREZ_FETCH_SPAN] && f.length == (f.span == LILIVREZ_SPAN_NONE ? 0 : size));
+    CHECK(f.bytes == (f.span == LILIVREZ_SPAN_NONE ? NULL : (f.span == LILIVREZ_SPAN_IMAGE ? g.image : g.work) + index));
     CHECK(number == 0 || number == 12 || number == 13 || number == 19);
     if (number != 0 || size == 0) {
         CHECK(out[LILIVREZ_FETCH_SPAN] == LILIVREZ_SPAN_NONE && index == 0);
@@ -398,6 +460,13 @@ static void check_offset(const struct trace *t, uint32_t number, uint64_t offset
         CHECK(offset <= t->used);
 }
 
+static struct lilivrez_trace trace_of(const struct trace *t)
+{
+    struct lilivrez_trace trace = {.buffer = t->buffer, .length = t->length, .used = t->used};
+
+    return trace;
+}
+
 static uint32_t check_walk(const struct trace *t, size_t place, uint64_t told[LILIVREZ_WALK_PLACES])
 {
     uint64_t *out = slice(outs, LILIVREZ_WALK_PLACES * sizeof out[0]);
@@ -405,6 +474,11 @@ static uint32_t check_walk(const struct trace *t, size_t place, uint64_t told[LI
     memset(out, 0xa5, LILIVREZ_WALK_PLACES * sizeof out[0]);
     uint32_t number = lilivrez_walk(t->buffer, t->length, place, out);
     memcpy(told, out, LILIVREZ_WALK_PLACES * sizeof out[0]);
+    struct lilivrez_trace trace = trace_of(t);
+    size_t mine = place;
+    struct lilivrez_frame f = lilivrez_walk_in(&trace, &mine);
+    CHECK(f.refusal == number && f.offset == out[LILIVREZ_WALK_OFFSET] && f.tracepoint == out[LILIVREZ_WALK_TRACEPOINT]);
+    CHECK(f.start == out[LILIVREZ_WALK_START] && f.length == out[LILIVREZ_WALK_LENGTH] && mine == out[LILIVREZ_WALK_NEXT]);
     if (number == LILIVREZ_NOT_REFUSED) {
         CHECK(out[LILIVREZ_WALK_OFFSET] == 0 && out[LILIVREZ_WALK_NEXT] == out[LILIVREZ_WALK_START]);
         CHECK(out[LILIVREZ_WALK_START] + out[LILIVREZ_WALK_LENGTH] + 8 == place);
@@ -428,6 +502,10 @@ static uint32_t check_locate(const struct trace *t, uint64_t frame, uint64_t tol
     memset(out, 0xa5, LILIVREZ_LOCATE_PLACES * sizeof out[0]);
     uint32_t number = lilivrez_locate(t->buffer, t->length, t->used, frame, out);
     memcpy(told, out, LILIVREZ_LOCATE_PLACES * sizeof out[0]);
+    struct lilivrez_trace trace = trace_of(t);
+    struct lilivrez_frame f = lilivrez_locate_in(&trace, frame);
+    CHECK(f.refusal == number && f.offset == out[LILIVREZ_LOCATE_OFFSET] && f.tracepoint == out[LILIVREZ_LOCATE_TRACEPOINT]);
+    CHECK(f.start == out[LILIVREZ_LOCATE_START] && f.length == out[LILIVREZ_LOCATE_LENGTH]);
     if (number == LILIVREZ_NOT_REFUSED) {
         CHECK(out[LILIVREZ_LOCATE_OFFSET] == 0);
         return number;
@@ -446,6 +524,10 @@ static uint32_t check_count(const struct trace *t, uint64_t frame, uint64_t told
     memset(out, 0xa5, LILIVREZ_COUNT_PLACES * sizeof out[0]);
     uint32_t number = lilivrez_count(t->buffer, t->length, t->used, frame, out);
     memcpy(told, out, LILIVREZ_COUNT_PLACES * sizeof out[0]);
+    struct lilivrez_trace trace = trace_of(t);
+    struct lilivrez_counted c = lilivrez_count_in(&trace, frame);
+    CHECK(c.refusal == number && c.offset == out[LILIVREZ_COUNT_OFFSET] && c.tracepoint == out[LILIVREZ_COUNT_TRACEPOINT]);
+    CHECK(c.start == out[LILIVREZ_COUNT_START] && c.length == out[LILIVREZ_COUNT_LENGTH] && c.records == out[LILIVREZ_COUNT_RECORDS]);
     if (number == LILIVREZ_NOT_REFUSED) {
         CHECK(out[LILIVREZ_COUNT_OFFSET] == 0);
         return number;
@@ -457,6 +539,16 @@ static uint32_t check_count(const struct trace *t, uint64_t frame, uint64_t told
     return number;
 }
 
+/* What the calls by name tell of a record: `told` are the four numbers from the kind on. */
+static void check_told(const struct trace *t, struct lilivrez_record_read r, const uint64_t told[4])
+{
+    int is_memory = told[0] == LILIVREZ_RECORD_MEMORY, is_variable = told[0] == LILIVREZ_RECORD_VARIABLE;
+
+    CHECK(r.kind == told[0] && r.address == (is_memory ? told[1] : 0));
+    CHECK(r.bytes == (is_memory ? t->buffer + told[3] : NULL) && r.length == (is_memory ? told[2] : 0));
+    CHECK(r.variable == (is_variable ? told[1] : 0) && r.value == (is_variable ? told[2] : 0));
+}
+
 static uint32_t check_read(const struct trace *t, uint64_t frame, uint64_t index, uint64_t told[LILIVREZ_READ_PLACES])
 {
     uint64_t *out = slice(outs, LILIVREZ_READ_PLACES * sizeof out[0]);
@@ -464,6 +556,10 @@ static uint32_t check_read(const struct trace *t, uint64_t frame, uint64_t index
     memset(out, 0xa5, LILIVREZ_READ_PLACES * sizeof out[0]);
     uint32_t number = lilivrez_read(t->buffer, t->length, t->used, frame, index, out);
     memcpy(told, out, LILIVREZ_READ_PLACES * sizeof out[0]);
+    struct lilivrez_trace trace = trace_of(t);
+    struct lilivrez_record_read r = lilivrez_read_in(&trace, frame, index);
+    CHECK(r.refusal == number && r.offset == out[LILIVREZ_READ_OFFSET] && r.tracepoint == out[LILIVREZ_READ_TRACEPOINT]);
+    check_told(t, r, out + LILIVREZ_READ_KIND);
     CHECK(number < REFUSALS);
     met_reading[number]++;
     if (number == LILIVREZ_NOT_REFUSED) {
@@ -476,16 +572,75 @@ static uint32_t check_read(const struct trace *t, uint64_t frame, uint64_t index
     return number;
 }
 
-/* The records of a frame follow each other from its start to its trailer. `told` is what was stored of the frame's count. */
+static uint32_t check_next(const struct trace *t, size_t end, size_t place, uint64_t told[LILIVREZ_NEXT_RECORD_PLACES])
+{
+    uint64_t *out = slice(outs, LILIVREZ_NEXT_RECORD_PLACES * sizeof out[0]);
+
+    memset(out, 0xa5, LILIVREZ_NEXT_RECORD_PLACES * sizeof out[0]);
+    uint32_t number = lilivrez_next_record(t->buffer, t->length, end, place, out);
+    memcpy(told, out, LILIVREZ_NEXT_RECORD_PLACES * sizeof out[0]);
+    struct lilivrez_trace trace = trace_of(t);
+    struct lilivrez_frame f = {.tracepoint = 7, .start = end / 2, .length = end - end / 2};
+    size_t mine = place;
+    struct lilivrez_record_read r = lilivrez_next_record_in(&trace, &f, &mine);
+    CHECK(r.refusal == number && r.offset == out[LILIVREZ_NEXT_RECORD_OFFSET] && r.tracepoint == (number == 0 ? 7 : 0));
+    CHECK(mine == out[LILIVREZ_NEXT_RECORD_NEXT]);
+    check_told(t, r, out + LILIVREZ_NEXT_RECORD_KIND);
+    CHECK(number < REFUSALS);
+    met_next[number]++;
+    CHECK((number == LILIVREZ_REFUSED_BUFFER_BAD) == (t->length > LILIVREZ_BUFFER_BYTES || end > t->length));
+    if (number == LILIVREZ_NOT_REFUSED) {
+        CHECK(out[LILIVREZ_NEXT_RECORD_OFFSET] == 0);
+        CHECK(place < out[LILIVREZ_NEXT_RECORD_NEXT] && out[LILIVREZ_NEXT_RECORD_NEXT] <= end);
+        return number;
+    }
+    if (number != LILIVREZ_REFUSED_BUFFER_BAD)
+        CHECK(number == (end <= place ? LILIVREZ_REFUSED_NO_SUCH_RECORD : LILIVREZ_REFUSED_RECORD_BROKEN));
+    CHECK(out[LILIVREZ_NEXT_RECORD_OFFSET] == (number == LILIVREZ_REFUSED_BUFFER_BAD ? 0 : place));
+    for (size_t i = 1; i < LILIVREZ_NEXT_RECORD_NEXT; i++)
+        CHECK(out[i] == 0);
+    CHECK(out[LILIVREZ_NEXT_RECORD_NEXT] == place);
+    return number;
+}
+
+/* From one place to the next, up to a refusal, which is told. Returns the number of records. */
+static uint64_t check_steps(const struct trace *t, size_t start, size_t end, uint32_t *refused, uint64_t *offset)
+{
+    uint64_t step[LILIVREZ_NEXT_RECORD_PLACES], records = 0;
+    size_t place = start;
+
+    while ((*refused = check_next(t, end, place, step)) == LILIVREZ_NOT_REFUSED) {
+        place = (size_t)step[LILIVREZ_NEXT_RECORD_NEXT];
+        records++;
+    }
+    *offset = step[LILIVREZ_NEXT_RECORD_OFFSET];
+    return records;
+}
+
+/* Any numbers at all, and places within and around the buffer. */
+static void check_any_step(const struct trace *t)
+{
+    uint64_t step[LILIVREZ_NEXT_RECORD_PLACES];
+    size_t end = below(8) == 0 ? (size_t)any() : below(t->length + 3), place = below(8) == 0 ? (size_t)any() : below(t->length + 3);
+
+    check_next(t, end, place, step);
+}
+
+/*
+ * The records of a frame follow each other from its start to its trailer, for the walk over them too. `told` is what
+ * was stored of the frame's count.
+ */
 static void check_records(const struct trace *t, uint64_t frame, const uint64_t told[LILIVREZ_COUNT_PLACES])
 {
-    uint64_t out[LILIVREZ_READ_PLACES];
+    uint64_t out[LILIVREZ_READ_PLACES], step[LILIVREZ_NEXT_RECORD_PLACES];
     size_t at = (size_t)told[LILIVREZ_COUNT_START], end = at + (size_t)told[LILIVREZ_COUNT_LENGTH];
 
     for (uint64_t i = 0; i < told[LILIVREZ_COUNT_RECORDS]; i++) {
         const uint8_t *p = t->buffer + at;
         CHECK(check_read(t, frame, i, out) == LILIVREZ_NOT_REFUSED);
         CHECK(out[LILIVREZ_READ_TRACEPOINT] == told[LILIVREZ_COUNT_TRACEPOINT]);
+        CHECK(check_next(t, end, at, step) == LILIVREZ_NOT_REFUSED);
+        CHECK(memcmp(out + LILIVREZ_READ_KIND, step + LILIVREZ_NEXT_RECORD_KIND, 4 * sizeof out[0]) == 0);
         if (out[LILIVREZ_READ_KIND] == LILIVREZ_RECORD_MEMORY) {
             CHECK(11 < end - at && p[0] == 0x4d && number_at(p + 1, 8) == out[LILIVREZ_READ_ADDRESS]);
             CHECK(number_at(p + 9, 2) == out[LILIVREZ_READ_LENGTH] && out[LILIVREZ_READ_LENGTH] >= 1);
@@ -497,9 +652,9 @@ static void check_records(const struct trace *t, uint64_t frame, const uint64_t 
             CHECK(out[LILIVREZ_READ_VARIABLE] < LILIVREZ_VARIABLES && number_at(p + 5, 8) == out[LILIVREZ_READ_VALUE]);
             at += 13;
         }
-        CHECK(at <= end);
+        CHECK(at <= end && step[LILIVREZ_NEXT_RECORD_NEXT] == at);
     }
-    CHECK(at == end);
+    CHECK(at == end && check_next(t, end, at, step) == LILIVREZ_REFUSED_NO_SUCH_RECORD);
     CHECK(check_read(t, frame, told[LILIVREZ_COUNT_RECORDS] + below(2) * (any() >> 1), out) == LILIVREZ_REFUSED_NO_SUCH_RECORD);
     CHECK(out[LILIVREZ_READ_OFFSET] == told[LILIVREZ_COUNT_START]);
 }
@@ -507,7 +662,7 @@ static void check_records(const struct trace *t, uint64_t frame, const uint64_t 
 /* Locating, counting and reading agree with the step that found the frame: `step` is what it stored. */
 static void check_frame(const struct trace *t, uint64_t frame, const uint64_t step[LILIVREZ_WALK_PLACES])
 {
-    uint64_t found[LILIVREZ_LOCATE_PLACES], told[LILIVREZ_COUNT_PLACES], out[LILIVREZ_READ_PLACES];
+    uint64_t found[LILIVREZ_LOCATE_PLACES], told[LILIVREZ_COUNT_PLACES], out[LILIVREZ_READ_PLACES], broken;
 
     CHECK(check_locate(t, frame, found) == LILIVREZ_NOT_REFUSED && found[LILIVREZ_LOCATE_TRACEPOINT] == step[LILIVREZ_WALK_TRACEPOINT]);
     CHECK(found[LILIVREZ_LOCATE_START] == step[LILIVREZ_WALK_START] && found[LILIVREZ_LOCATE_LENGTH] == step[LILIVREZ_WALK_LENGTH]);
@@ -516,6 +671,8 @@ static void check_frame(const struct trace *t, uint64_t frame, const uint64_t st
         uint64_t offset = told[LILIVREZ_COUNT_OFFSET];
         CHECK(step[LILIVREZ_WALK_START] <= offset && offset < step[LILIVREZ_WALK_START] + step[LILIVREZ_WALK_LENGTH]);
         CHECK(check_read(t, frame, below(6), out) == number && out[LILIVREZ_READ_OFFSET] == offset);
+        check_steps(t, (size_t)step[LILIVREZ_WALK_START], (size_t)(step[LILIVREZ_WALK_START] + step[LILIVREZ_WALK_LENGTH]), &number, &broken);
+        CHECK(number == LILIVREZ_REFUSED_RECORD_BROKEN && broken == offset);
         return;
     }
     CHECK(number == LILIVREZ_NOT_REFUSED);
@@ -551,6 +708,7 @@ static void check_frames(void)
     CHECK(check_locate(&t, frame, found) == number && found[LILIVREZ_LOCATE_OFFSET] == step[LILIVREZ_WALK_OFFSET]);
     CHECK(check_count(&t, frame, told) == number && told[LILIVREZ_COUNT_OFFSET] == step[LILIVREZ_WALK_OFFSET]);
     CHECK(check_read(&t, frame, any(), out) == number && out[LILIVREZ_READ_OFFSET] == step[LILIVREZ_WALK_OFFSET]);
+    check_any_step(&t);
     CHECK(t.length == 0 || memcmp(t.buffer, befores.first, t.length) == 0);
 }
 
@@ -581,6 +739,9 @@ static void check_empty_buffer(void)
     CHECK(lilivrez_count(NULL, 0, 1, 0, counted) == LILIVREZ_REFUSED_BUFFER_BAD);
     CHECK(lilivrez_locate(NULL, 0, 1, 0, found) == LILIVREZ_REFUSED_BUFFER_BAD);
     CHECK(lilivrez_walk(NULL, 0, 1, step) == LILIVREZ_REFUSED_BUFFER_BAD && step[LILIVREZ_WALK_NEXT] == 1);
+    CHECK(lilivrez_next_record(NULL, 0, 0, 0, read) == LILIVREZ_REFUSED_NO_SUCH_RECORD && read[LILIVREZ_NEXT_RECORD_NEXT] == 0);
+    CHECK(lilivrez_next_record(NULL, 0, 0, SIZE_MAX, read) == LILIVREZ_REFUSED_NO_SUCH_RECORD && read[LILIVREZ_NEXT_RECORD_NEXT] == SIZE_MAX);
+    CHECK(lilivrez_next_record(NULL, 0, 1, 0, read) == LILIVREZ_REFUSED_BUFFER_BAD && read[LILIVREZ_NEXT_RECORD_NEXT] == 0);
 }
 
 /* Prints how often each number was met; one that may be met and was not is a failure of this test. */
@@ -604,11 +765,14 @@ static int report(const char *what, const unsigned long *counts, const uint32_t 
 int main(int count, char **words)
 {
     unsigned long cases = count > 1 ? strtoul(words[1], NULL, 10) : 100000;
-    static const uint32_t of_runs[] = {0, 1, 2, 3, 4, 5, 6, 7, 8, 9, 10, 11, 12, 13, 14, 15, 16, 17, 18, 19, 20, 21}, of_readings[] = {0, 15, 22, 23, 24, 25};
+    static const uint32_t of_runs[] = {0, 1, 2, 3, 4, 5, 6, 7, 8, 9, 10, 11, 12, 13, 14, 15, 16, 17, 18, 19, 20, 21};
+    static const uint32_t of_conditions[] = {0, 12, 13, 14, 17, 18, 19, 20, 21}, of_readings[] = {0, 15, 22, 23, 24, 25}, of_next[] = {0, 15, 23, 25};
     struct room *rooms[] = {&expressions, &registers, &images, &works, &buffers, &befores, &arrays, &outs};
 
     for (size_t i = 0; i < sizeof rooms / sizeof rooms[0]; i++)
         *rooms[i] = new_room();
+    CHECK(lilivrez_verifier_version() == LILIVREZ_VERSION_NUMBER);
+    CHECK(lilivrez_agent_version() == LILIVREZ_VERSION_NUMBER && lilivrez_frames_version() == LILIVREZ_VERSION_NUMBER);
     check_empty();
     check_empty_buffer();
     for (unsigned long i = 0; i < cases; i++) {
@@ -618,5 +782,7 @@ int main(int count, char **words)
     }
     printf("tests/boundary: %lu cases of running, fetching and reading as expected\n", cases);
     int is_met = report("runs", met, of_runs, sizeof of_runs / sizeof of_runs[0]);
-    return report("readings", met_reading, of_readings, sizeof of_readings / sizeof of_readings[0]) && is_met ? 0 : 1;
+    is_met &= report("conditions", evaluated, of_conditions, sizeof of_conditions / sizeof of_conditions[0]);
+    is_met &= report("readings", met_reading, of_readings, sizeof of_readings / sizeof of_readings[0]);
+    return report("steps over records", met_next, of_next, sizeof of_next / sizeof of_next[0]) && is_met ? 0 : 1;
 }

@@ -85,6 +85,12 @@ static uint32_t walk(const uint64_t a[], uint64_t out[])
     return lilivrez_walk(frames[a[0]], sizeof frames[0], a[1], out);
 }
 
+/* which frames, end, place */
+static uint32_t next_record(const uint64_t a[], uint64_t out[])
+{
+    return lilivrez_next_record(frames[a[0]], sizeof frames[0], a[1], a[2], out);
+}
+
 /* ---- one call on the small stack */
 
 static ucontext_t main_context, small_context;
@@ -268,6 +274,10 @@ static const struct call calls[] = {
     {"walk: place beyond the buffer", walk, {WHOLE, OVER}, {15, {0, 0, 0, 0, OVER}}},
     {"walk: trailer broken", walk, {WHOLE, USED - 1}, {22, {USED - 1, 0, 0, 0, USED - 1}}},
     {"walk: nothing left", walk, {WHOLE, 0}, {24, {0, 0, 0, 0, 0}}},
+    {"next record: the last one", next_record, {WHOLE, USED - 8, 230}, {0, {0, 1, 0x1000, 60000, 241, USED - 8}}},
+    {"next record: end beyond the buffer", next_record, {WHOLE, OVER, 230}, {15, {0, 0, 0, 0, 0, 230}}},
+    {"next record: broken", next_record, {BROKEN, USED - 8, 230}, {23, {230, 0, 0, 0, 0, 230}}},
+    {"next record: behind the last", next_record, {WHOLE, USED - 8, USED - 8}, {25, {USED - 8, 0, 0, 0, 0, USED - 8}}},
 };
 
 int main(void)

@@ -16,6 +16,7 @@ run_function AGENT(run);
 fetch_function AGENT(fetch);
 read_function AGENT(read);
 walk_function AGENT(walk);
+next_record_function AGENT(next_record);
 
 enum { MOST_BYTES = 1024, DEPTH = 64, VARIABLES = 64, MOST_JUMPS = MOST_BYTES / 3 };
 enum { MEMORY_MARK = 0x4d, VARIABLE_MARK = 0x56, TRAILER_MARK = 0x46 };
@@ -647,6 +648,33 @@ static inline size_t find_record(const uint8_t *buffer, const struct frame *f, u
     return chosen;
 }
 
+// Kind, address or number, length or value, place of the bytes: of the record that begins at `place`.
+static inline void tell_record(const uint8_t *buffer, size_t place, uint64_t out[4])
+{
+    const uint8_t *p = buffer + place;
+    bool is_memory = p[0] == MEMORY_MARK;
+    out[0] = is_memory ? 1 : 2;
+    out[1] = is_memory ? little(p + 1, 8) : little(p + 1, 4);
+    out[2] = is_memory ? little(p + 9, 2) : little(p + 5, 8);
+    out[3] = is_memory ? place + MEMORY_HEAD : 0;
+}
+
+uint32_t AGENT(next_record)(const uint8_t *buffer, size_t length, size_t end, size_t place, uint64_t out[6])
+{
+    memset(out, 0, 6 * sizeof out[0]);
+    out[5] = place;
+    if (length > 65536 || end > length)
+        return 15;
+    size_t size = place < end ? record_size(buffer + place, end - place) : 0;
+    if (size == 0) {
+        out[0] = place;
+        return place < end ? 23 : 25;
+    }
+    tell_record(buffer, place, out + 1);
+    out[5] = place + size;
+    return 0;
+}
+
 uint32_t AGENT(read)(const uint8_t *buffer, size_t length, size_t used, uint64_t frame, uint64_t record, uint64_t out[6])
 {
     memset(out, 0, 6 * sizeof out[0]);
@@ -664,12 +692,7 @@ uint32_t AGENT(read)(const uint8_t *buffer, size_t length, size_t used, uint64_t
         out[0] = broken ? chosen : f.start;
         return broken ? 23 : 25;
     }
-    const uint8_t *p = buffer + chosen;
-    bool is_memory = p[0] == MEMORY_MARK;
     out[1] = f.tracepoint;
-    out[2] = is_memory ? 1 : 2;
-    out[3] = is_memory ? little(p + 1, 8) : little(p + 1, 4);
-    out[4] = is_memory ? little(p + 9, 2) : little(p + 5, 8);
-    out[5] = is_memory ? chosen + MEMORY_HEAD : 0;
+    tell_record(buffer, chosen, out + 2);
     return 0;
 }

@@ -29,4 +29,8 @@ typedef uint32_t read_function(const uint8_t *buffer, size_t length, size_t used
 // The frame that ends at `end`. out: offset, tracepoint, start, length of the records, the place after the step
 typedef uint32_t walk_function(const uint8_t *buffer, size_t length, size_t end, uint64_t out[5]);
 
+// The record at `place`, of those that end at `end`. out: offset, kind, address or number, length or value, place of the
+// bytes, next place
+typedef uint32_t next_record_function(const uint8_t *buffer, size_t length, size_t end, size_t place, uint64_t out[6]);
+
 #endif

@@ -168,11 +168,11 @@ static void print_hits(void)
 
 static void print_head(const struct table *t)
 {
-    static const char *const what[] = {"instructions", "ns"};
+    static const char *const what[] = {"instructions, ", "ns, "};
     printf("\n### %s\n\n| %s | %s |", t->title, t->what, t->unit);
     for (int i = 0; i < 2 * agent_count; i++)
-        printf(" %s, %s |", what[i / agent_count], agents[i % agent_count].name);
-    printf(" library / C |\n|");
+        printf(" %s%s |", i % agent_count ? "" : what[i / agent_count], agents[i % agent_count].name);
+    printf(" ratio |\n|");
     for (int i = 0; i < 3 + 2 * agent_count; i++)
         printf("---|");
     printf("\n");

@@ -16,6 +16,7 @@ struct agent {
     fetch_function *fetch;
     read_function *read;
     walk_function *walk;
+    next_record_function *next_record;
 };
 
 enum { OURS, MOST_AGENTS = 3 };
@@ -25,7 +26,7 @@ void set_agents(void);
 
 // ---- one thing to measure
 
-enum kind { VERIFY, RUN, FETCH, WALK, READ, READ_OLDEST, READ_LAST };
+enum kind { VERIFY, RUN, FETCH, WALK, WALK_EMPTY, READ, NEXT, READ_OLDEST, READ_LAST, READ_EACH, NEXT_EACH };
 
 struct task {
     enum kind kind;
@@ -34,8 +35,8 @@ struct task {
     bool again;                                  // for the time, a member is called again and again before the next one
     struct expression own;                       // a single member
     uint64_t address, size;                      // FETCH
-    size_t frames;                               // WALK, READ, READ_OLDEST
-    size_t records;                              // READ_LAST: of the one frame
+    size_t frames;                               // WALK, WALK_EMPTY, READ, NEXT, READ_OLDEST
+    size_t records;                              // READ_LAST, READ_EACH, NEXT_EACH: of the one frame
     double count[MOST_AGENTS], nanoseconds[MOST_AGENTS];
 };
 
@@ -84,7 +85,7 @@ uint32_t run(int agent, const struct expression *e, struct given g, uint64_t out
 uint32_t fetch(int agent, const struct scene *s, uint64_t address, uint64_t size, uint64_t out[2]);
 
 void prepare(const struct task *t);                                            // before a task is performed
-uint32_t perform(int agent, const struct task *t, size_t member, uint64_t out[6]); // one call, for WALK and READ all frames
+uint32_t perform(int agent, const struct task *t, size_t member, uint64_t out[6]); // one call, or all frames or records
 
 // ---- the answers must be the same: check.c
 

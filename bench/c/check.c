@@ -57,7 +57,7 @@ static void compare_fetch(uint64_t address, uint64_t size)
     agree(NULL, "fetch", 2);
 }
 
-static void compare_reading(size_t end, uint64_t frame, uint64_t record)
+static void compare_reading(size_t end, uint64_t frame, uint64_t record, size_t place)
 {
     for (int a = 0; a < agent_count; a++)
         numbers[a] = agents[a].read(frames, sizeof frames, end, frame, record, outs[a]);
@@ -65,12 +65,15 @@ static void compare_reading(size_t end, uint64_t frame, uint64_t record)
     for (int a = 0; a < agent_count; a++)
         numbers[a] = agents[a].walk(frames, sizeof frames, end, outs[a]);
     agree(NULL, "walk", 5);
+    for (int a = 0; a < agent_count; a++)
+        numbers[a] = agents[a].next_record(frames, sizeof frames, end, place, outs[a]);
+    agree(NULL, "next_record", 6);
 }
 
 // A member of a workload: the answers agree, and it is not refused, but for fetches.
 static void compare_member(const struct task *t, size_t member)
 {
-    static const size_t places[] = {[VERIFY] = 4, [RUN] = 6, [FETCH] = 2, [WALK] = 0, [READ] = 6, [READ_OLDEST] = 6, [READ_LAST] = 6};
+    static const size_t places[] = {[VERIFY] = 4, [RUN] = 6, [FETCH] = 2, [READ] = 6, [NEXT] = 6, [READ_OLDEST] = 6, [READ_LAST] = 6, [READ_EACH] = 6, [NEXT_EACH] = 6};
     const struct expression *e = t->members[member];
     for (int a = 0; a < agent_count; a++)
         numbers[a] = perform(a, t, member, outs[a]);
@@ -146,7 +149,7 @@ static void check_frames(uint64_t *seed)
         uint8_t kept = frames[at];
         frames[at] = (uint8_t)next_random(seed);
         size_t end = one_in(seed, 4) ? next_random(seed) % 65600 : at + 1 + next_random(seed) % 40;
-        compare_reading(end, next_random(seed) % 4, next_random(seed) % 3);
+        compare_reading(end, next_random(seed) % 4, next_random(seed) % 3, at + next_random(seed) % 2 - next_random(seed) % 20);
         frames[at] = kept;
     }
 }
@@ -160,6 +163,6 @@ int check(void)
     check_expressions(&seed);
     check_fetches(&seed);
     check_frames(&seed);
-    printf("And 200,000 fetches, and 200,000 damaged frames, read and walked over.\n");
+    printf("And 200,000 fetches, and 200,000 damaged frames, read and walked over, and their records too.\n");
     return 0;
 }

@@ -13,6 +13,7 @@ extern WEAK run_function gcc_run, clang_run;
 extern WEAK fetch_function gcc_fetch, clang_fetch;
 extern WEAK read_function gcc_read, clang_read;
 extern WEAK walk_function gcc_walk, clang_walk;
+extern WEAK next_record_function gcc_next_record, clang_next_record;
 
 struct agent agents[MOST_AGENTS];
 int agent_count;
@@ -20,9 +21,9 @@ int agent_count;
 void set_agents(void)
 {
     static const struct agent known[MOST_AGENTS] = {
-        {"library", lilivrez_verify, lilivrez_run, lilivrez_fetch, lilivrez_read, lilivrez_walk},
-        {"C by gcc", gcc_verify, gcc_run, gcc_fetch, gcc_read, gcc_walk},
-        {"C by clang", clang_verify, clang_run, clang_fetch, clang_read, clang_walk},
+        {"library", lilivrez_verify, lilivrez_run, lilivrez_fetch, lilivrez_read, lilivrez_walk, lilivrez_next_record},
+        {"C by gcc", gcc_verify, gcc_run, gcc_fetch, gcc_read, gcc_walk, gcc_next_record},
+        {"C by clang", clang_verify, clang_run, clang_fetch, clang_read, clang_walk, clang_next_record},
     };
     for (int i = 0; i < MOST_AGENTS; i++)
         if (known[i].verify != NULL)
@@ -55,27 +56,52 @@ uint32_t fetch(int agent, const struct scene *s, uint64_t address, uint64_t size
                                address, size, out);
 }
 
-// All frames from the newest on: each is walked over, and for READ both of its records are read.
-static uint32_t read_back(int agent, bool reads, uint64_t out[6])
+// All records of one frame from its start on: answers 25, where the last is passed.
+static uint32_t next_each(int agent, size_t start, size_t length, uint64_t out[6])
+{
+    size_t end = start + length, place = start;
+    uint32_t number;
+    while ((number = agents[agent].next_record(frames, sizeof frames, end, place, out)) == 0)
+        place = out[5];
+    return number;
+}
+
+// All frames from the newest on: each is walked over, for READ both of its records are read by number, for NEXT all by steps.
+static uint32_t read_back(int agent, enum kind kind, uint64_t out[6])
 {
     uint64_t place[5];
     size_t end = frames_used;
     while (agents[agent].walk(frames, sizeof frames, end, place) == 0) {
-        if (reads) {
+        if (kind == READ) {
             agents[agent].read(frames, sizeof frames, end, 0, 0, out);
             agents[agent].read(frames, sizeof frames, end, 0, 1, out);
         }
+        if (kind == NEXT && next_each(agent, place[2], place[3], out) != 25)
+            return 23;
         end = place[4];
     }
     return end == 0 ? 0 : 22;
 }
 
+// All records of the one frame by their numbers.
+static uint32_t read_each(int agent, size_t records, uint64_t out[6])
+{
+    uint32_t number = 0;
+    for (size_t i = 0; i < records && number == 0; i++)
+        number = agents[agent].read(frames, sizeof frames, frames_used, 0, i, out);
+    return number;
+}
+
 void prepare(const struct task *t)
 {
-    if (t->kind == WALK || t->kind == READ || t->kind == READ_OLDEST)
+    if (t->kind == WALK || t->kind == READ || t->kind == NEXT || t->kind == READ_OLDEST)
         frames_used = make_frames(frames, t->frames);
+    if (t->kind == WALK_EMPTY)
+        frames_used = make_empty_frames(frames, t->frames);
     if (t->kind == READ_LAST)
-        frames_used = make_frame(frames, t->records);
+        frames_used = make_frame(frames, t->records, 8);
+    if (t->kind == READ_EACH || t->kind == NEXT_EACH)
+        frames_used = make_frame(frames, t->records, 4);
     if (t->kind == RUN)
         for (int a = 0; a < agent_count; a++)
             memcpy(variables[a], t->members[0]->scene->variables, sizeof variables[a]);
@@ -90,7 +116,9 @@ uint32_t perform(int agent, const struct task *t, size_t member, uint64_t out[6]
     case FETCH: return fetch(agent, &scene, t->address, t->size, out);
     case READ_OLDEST: return agents[agent].read(frames, sizeof frames, frames_used, t->frames - 1, 0, out);
     case READ_LAST: return agents[agent].read(frames, sizeof frames, frames_used, 0, t->records - 1, out);
-    default: return read_back(agent, t->kind == READ, out);
+    case READ_EACH: return read_each(agent, t->records, out);
+    case NEXT_EACH: return next_each(agent, 0, frames_used - 8, out) == 25 ? 0 : 23;
+    default: return read_back(agent, t->kind, out);
     }
 }
 
@@ -211,7 +239,7 @@ static void add_verify(const struct expression *e, const char *name)
 static void make_verifies(void)
 {
     struct expression e;
-    add_table("Verify alone, per instruction of the expression", "workload", "instructions");
+    add_table("Verify alone, per bytecode of the expression", "workload", "bytecodes");
     make_short(&e);
     add_verify(&e, "27 bytes, a short condition of GDB's");
     make_run(&e, CONDITION);
@@ -257,6 +285,7 @@ static void make_reads(void)
     add_table("Reading back 1,000 frames of two records, per frame", "workload", "frames");
     add_row("walking over them", 1000, add_frames(WALK, 1000), NULL);
     add_row("walking, and reading both records", 1000, add_frames(READ, 1000), NULL);
+    add_row("walking, and stepping over the records", 1000, add_frames(NEXT, 1000), NULL);
 }
 
 // ---- growth
@@ -273,18 +302,21 @@ static void make_growing_expressions(const char *title, const char *what, enum k
     }
 }
 
-static void make_growing_frames(const char *title, enum kind kind)
+static void make_growing_frames(const char *title, enum kind kind, size_t least)
 {
     add_table(title, "frames", "calls");
-    for (size_t count = 125; count < 125 << GROWTH; count *= 2)
+    for (size_t count = least; count < least << GROWTH; count *= 2)
         add_sized(count, 1, add_frames(kind, count), NULL);
 }
 
-static void make_growing_frame(void)
+// Up to 4,096 records, of 15 bytes each, fit in a buffer.
+enum { MOST_GROWTH = 7 };
+
+static void make_growing_frame(const char *title, enum kind kind, int growth)
 {
-    add_table("Growth: one read of the last record, over the records of the frame", "records", "calls");
-    for (size_t records = 64; records < 64 << GROWTH; records *= 2) {
-        struct task *t = add_task(READ_LAST);
+    add_table(title, "records", "calls");
+    for (size_t records = 64; records < (size_t)64 << growth; records *= 2) {
+        struct task *t = add_task(kind);
         t->records = records;
         add_sized(records, 1, t, NULL);
     }
@@ -313,8 +345,11 @@ void make_tasks(const char *hits_path)
     make_growing_expressions("Growth: verify, over the bytes of the expression", "bytes", VERIFY, make_chain, 128);
     make_growing_expressions("Growth: run, over the bytes of the expression, a step each", "bytes", RUN, make_chain, 128);
     make_growing_expressions("Growth: run of four records, over the bytes recorded", "bytes", RUN, make_bytes, 4096);
-    make_growing_frames("Growth: reading back frames of two records, over the frames", READ);
-    make_growing_frames("Growth: one read in the oldest frame, over the frames", READ_OLDEST);
-    make_growing_frame();
+    make_growing_frames("Growth: reading back frames of two records, over the frames", READ, 125);
+    make_growing_frames("Growth: one read in the oldest frame, over the frames", READ_OLDEST, 125);
+    make_growing_frames("Growth: walking over frames without records, over the frames", WALK_EMPTY, 1024);
+    make_growing_frame("Growth: one read of the last record, over the records of the frame", READ_LAST, GROWTH);
+    make_growing_frame("Growth: all records of a frame, each by its number, over the records", READ_EACH, MOST_GROWTH);
+    make_growing_frame("Growth: all records of a frame, by steps, over the records", NEXT_EACH, MOST_GROWTH);
     make_quicks();
 }

@@ -279,13 +279,13 @@ void make_random(struct expression *e, uint64_t *seed)
 
 // ---- frames, written by hand: more records than an expression of 1,024 bytes can make
 
-// A record of 8 bytes of the chain.
-static uint8_t *put_memory(uint8_t *p, uint64_t address)
+// A record of so many bytes of the chain, up to 8.
+static uint8_t *put_memory(uint8_t *p, uint64_t address, size_t bytes)
 {
     p = put_little(p, 0x4d, 1);
     p = put_little(p, address, 8);
-    p = put_little(p, 8, 2);
-    return put_little(p, address + 8, 8);
+    p = put_little(p, bytes, 2);
+    return put_little(p, address + 8, bytes);
 }
 
 static uint8_t *put_trailer(uint8_t *p, const uint8_t *frame, uint64_t tracepoint)
@@ -301,7 +301,7 @@ size_t make_frames(uint8_t *buffer, size_t frames)
     uint8_t *p = buffer;
     for (size_t i = 0; i < frames; i++) {
         const uint8_t *frame = p;
-        p = put_memory(p, CHAIN);
+        p = put_memory(p, CHAIN, 8);
         p = put_little(p, 0x56, 1);
         p = put_little(p, 3, 4);
         p = put_little(p, scene.variables[3], 8);
@@ -310,10 +310,18 @@ size_t make_frames(uint8_t *buffer, size_t frames)
     return (size_t)(p - buffer);
 }
 
-size_t make_frame(uint8_t *buffer, size_t records)
+size_t make_empty_frames(uint8_t *buffer, size_t frames)
+{
+    uint8_t *p = buffer;
+    for (size_t i = 0; i < frames; i++)
+        p = put_trailer(p, p, i);
+    return (size_t)(p - buffer);
+}
+
+size_t make_frame(uint8_t *buffer, size_t records, size_t bytes)
 {
     uint8_t *p = buffer;
     for (size_t i = 0; i < records; i++)
-        p = put_memory(p, CHAIN + 8 * i);
+        p = put_memory(p, CHAIN + 8 * i, bytes);
     return (size_t)(put_trailer(p, buffer, 7) - buffer);
 }

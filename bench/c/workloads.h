@@ -52,8 +52,11 @@ void make_random(struct expression *e, uint64_t *seed);     // mostly acceptable
 // Fills the buffer with so many frames of a memory and a variable record; the answer is the used length.
 size_t make_frames(uint8_t *buffer, size_t frames);
 
-// Fills the buffer with one frame of so many memory records of 8 bytes; the answer is the used length.
-size_t make_frame(uint8_t *buffer, size_t records);
+// The same with no records.
+size_t make_empty_frames(uint8_t *buffer, size_t frames);
+
+// Fills the buffer with one frame of so many memory records of so many bytes, up to 8; the answer is the used length.
+size_t make_frame(uint8_t *buffer, size_t records, size_t bytes);
 
 uint64_t next_random(uint64_t *seed);
 

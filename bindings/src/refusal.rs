@@ -1,11 +1,11 @@
 //! The refusals of all functions: lilivrez.h.
-use std::fmt;
+use core::error::Error;
+use core::fmt;
 
-/// Why something was refused: the numbers of document 01.
-#[repr(u32)]
+/// Why something was refused, in the order of the numbers of document 01, which begin at 1.
 #[derive(Clone, Copy, Debug, PartialEq, Eq)]
 pub enum Refusal {
-    ExpressionSize = 1,
+    ExpressionSize,
     OpcodeUnknown,
     OpcodeUnsupported,
     OperandsCut,
@@ -30,6 +30,8 @@ pub enum Refusal {
     RecordBroken,
     NoSuchFrame,
     NoSuchRecord,
+    /// A number that has no name here: the archive is newer than these wrappers. It is a refusal all the same.
+    Unknown(u32),
 }
 
 use Refusal::*;
@@ -93,22 +95,43 @@ const WORDS: [&str; 25] = [
 ];
 
 impl Refusal {
+    /// The number of document 01.
     pub fn number(self) -> u32 {
-        self as u32
+        match self {
+            Unknown(number) => number,
+            _ => 1 + self.place().unwrap_or(0) as u32,
+        }
     }
 
     /// The refusal that a function returned, or none where it returned 0.
+    ///
+    /// ```
+    /// use lilivrez::Refusal;
+    ///
+    /// assert_eq!(Refusal::of(0), None);
+    /// assert_eq!(Refusal::of(17), Some(Refusal::DivisorZero));
+    /// assert_eq!(Refusal::of(26), Some(Refusal::Unknown(26)));
+    /// ```
     pub fn of(number: u32) -> Option<Refusal> {
-        let at = (number as usize).checked_sub(1)?;
-        Some(REFUSALS[at])
+        let place = (number as usize).checked_sub(1)?;
+        Some(REFUSALS.get(place).copied().unwrap_or(Unknown(number)))
+    }
+
+    fn place(self) -> Option<usize> {
+        REFUSALS.iter().position(|&refusal| refusal == self)
     }
 }
 
 impl fmt::Display for Refusal {
     fn fmt(&self, f: &mut fmt::Formatter) -> fmt::Result {
-        f.write_str(WORDS[self.number() as usize - 1])
+        let words = self
+            .place()
+            .map_or("unknown refusal number", |at| WORDS[at]);
+        f.write_str(words)
     }
 }
+
+impl Error for Refusal {}
 
 /// A refusal, and the offset that it tells.
 #[derive(Clone, Copy, Debug, PartialEq, Eq)]
@@ -116,3 +139,13 @@ pub struct Refused {
     pub refusal: Refusal,
     pub offset: u64,
 }
+
+impl fmt::Display for Refused {
+    fn fmt(&self, f: &mut fmt::Formatter) -> fmt::Result {
+        let Refused { refusal, offset } = self;
+        let number = refusal.number();
+        write!(f, "refused {number} at offset {offset}: {refusal}")
+    }
+}
+
+impl Error for Refused {}

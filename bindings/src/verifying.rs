@@ -2,6 +2,7 @@
 use crate::library;
 use crate::{Refusal, Refused};
 
+/// An expression that runs safely: no run takes more steps than the longest walk.
 #[derive(Clone, Copy, Debug, PartialEq, Eq)]
 pub struct Accepted {
     pub instructions: u64,
@@ -9,6 +10,13 @@ pub struct Accepted {
     pub longest_walk: u64,
 }
 
+/// Whether the bytes are an expression that runs safely.
+///
+/// ```
+/// let accepted = lilivrez::verify(&[0x22, 0x05, 0x22, 0x03, 0x02, 0x27])?;
+/// assert_eq!(accepted.greatest_height, 2);
+/// # Ok::<(), lilivrez::Refused>(())
+/// ```
 pub fn verify(expression: &[u8]) -> Result<Accepted, Refused> {
     let mut out = [0; 4];
     let number = library::verify(expression, &mut out);

@@ -5,6 +5,7 @@ mod fetch;
 mod fields;
 mod long_read;
 mod long_run;
+mod next;
 mod read;
 mod run;
 mod shrink;
@@ -13,6 +14,7 @@ mod verify;
 
 use compare::{compare, compare_line, Found};
 use fetch::Fetch;
+use next::Next;
 use read::Read;
 use run::Run;
 use std::process::ExitCode;
@@ -94,7 +96,8 @@ fn line(line: &str) -> Result<bool, String> {
         "fetch" => compare_line::<Fetch>(fields),
         "run" => compare_line::<Run>(fields),
         "read" => compare_line::<Read>(fields),
-        _ => Err("a line begins with verify, fetch, run or read".to_string()),
+        "next" => compare_line::<Next>(fields),
+        _ => Err("a line begins with verify, fetch, run, read or next".to_string()),
     };
     let difference = difference.map_err(|text| format!("`{line}`: {text}"))?;
     if let Some(text) = &difference {
@@ -121,11 +124,12 @@ fn kept() -> Result<bool, String> {
 
 /// Whether all answers are the same, each refusal was seen and long cases too; prints the table and each kind's smallest difference.
 fn random(cases: usize, seed: u64) -> bool {
-    let kinds: [fn(usize, u64) -> Found; 4] = [
+    let kinds: [fn(usize, u64) -> Found; 5] = [
         compare::<Verify>,
         compare::<Fetch>,
         compare::<Run>,
         compare::<Read>,
+        compare::<Next>,
     ];
     let all = kinds.map(|kind| thread::spawn(move || kind(cases, seed)));
     let all = all.map(|found| found.join().expect("a comparison ends"));

@@ -18,15 +18,15 @@ use std::ops::Range;
 
 #[derive(Clone, PartialEq)]
 pub struct Read {
-    buffer: Buffer,
-    used: u64,
-    frame: u64,
+    pub buffer: Buffer,
+    pub used: u64,
+    pub frame: u64,
     record: u64,
 }
 
 /// The numbers of a record's kinds.
-const MEMORY: u64 = 1;
-const VARIABLE: u64 = 2;
+pub const MEMORY: u64 = 1;
+pub const VARIABLE: u64 = 2;
 
 /// Frames that are asked for some times before others are made.
 #[derive(Default)]
@@ -271,9 +271,11 @@ impl Case for Read {
             }))
             .chain(each(self, parts(), |case, part| {
                 case.used = case.used.saturating_sub(part.len() as u64);
-                cut(case, part);
+                case.buffer = cut(&case.buffer, part);
             }))
-            .chain(each(self, parts(), cut))
+            .chain(each(self, parts(), |case, part| {
+                case.buffer = cut(&case.buffer, part)
+            }))
             .chain(each(
                 self,
                 shrink::bytes(&self.buffer.bytes),
@@ -298,14 +300,14 @@ impl Case for Read {
     }
 }
 
-fn cut(case: &mut Read, part: Range<usize>) {
-    case.buffer = Buffer::of(&shrink::without(&case.buffer.values(), &part));
+pub fn cut(buffer: &Buffer, part: Range<usize>) -> Buffer {
+    Buffer::of(&shrink::without(&buffer.values(), &part))
 }
 
 #[cfg(test)]
 mod tests {
     use evaluator::hex;
-    use lilivrez::{Counted, Frame, Record};
+    use lilivrez::{Counted, Frame, Record, Records};
 
     /// The safe wrappers tell all that is stored: of the newer frame, tracepoint 9, in which variable 3 is 7, and of no third.
     #[test]
@@ -332,6 +334,13 @@ mod tests {
             lilivrez::read(&buffer, 29, 0, 0),
             Ok(lilivrez::Read { tracepoint, record })
         );
+        let mut records = Records::of(&buffer, frame);
+        assert_eq!(records.step(), Ok(record));
+        for _ in 0..2 {
+            let refused = records.step().unwrap_err();
+            assert_eq!((refused.refusal.number(), refused.offset), (25, 21));
+            assert_eq!(records.place, 21);
+        }
         let refused = lilivrez::locate(&buffer, 29, 2).unwrap_err();
         assert_eq!((refused.refusal.number(), refused.offset), (24, 0));
     }

@@ -1,5 +1,6 @@
 //! The frame reader of document 01, "Frames": frames counted from the newest,
-//! the records of one, and the walker's step. This module knows only frames.
+//! the records of one, the walker's step, and a step over the records of a
+//! frame. This module knows only frames.
 
 use crate::frames::{self, Record};
 use crate::verify::Refused;
@@ -129,6 +130,21 @@ pub fn read(buffer: &[u8], used: u64, number: u64, index: u64) -> Result<Reading
             number: *number,
             value: *value,
         }),
+    }
+}
+
+/// A step over the records that end at `end`: the record at the place, and the
+/// place just past it. 15 as everywhere, 25 where nothing is left before the
+/// end, 23 where no record stands; both at the place.
+pub fn next_record(buffer: &[u8], end: u64, place: u64) -> Result<(Record, usize), Refused> {
+    let end = check(buffer, end)?;
+    let place = place as usize;
+    if place >= end {
+        return refuse(NO_RECORD, place);
+    }
+    match frames::decode(&buffer[place..end]) {
+        Some((record, size)) => Ok((record, place + size)),
+        None => refuse(BROKEN_RECORD, place),
     }
 }
 
@@ -281,5 +297,32 @@ mod tests {
         buffer[14] = 63;
         buffer[1..9].fill(0xff);
         assert!(read(&buffer, 34, 0, 0).is_ok());
+    }
+    /// Over the two records of a frame and to its end; inside a record, past
+    /// the buffer, and with any numbers.
+    #[test]
+    fn steps_over_records() {
+        let trailer = "46 00 00 00 1a 00 00 00";
+        let mut buffer = bytes(&[&WORKED[..38], &SECOND[..38], trailer]);
+        let first = Record::Memory {
+            address: 4096,
+            bytes: vec![0x41, 0x00],
+        };
+        let number = 3;
+        let value = 7;
+        let second = Record::Variable { number, value };
+        assert_eq!(next_record(&buffer, 26, 0), Ok((first.clone(), 13)));
+        assert_eq!(next_record(&buffer, 26, 13), Ok((second, 26)));
+        assert_eq!(next_record(&buffer, 26, 26), refuse(25, 26));
+        assert_eq!(next_record(&buffer, 26, u64::MAX), refuse(25, usize::MAX));
+        assert_eq!(next_record(&buffer, 13, 0), Ok((first, 13)));
+        assert_eq!(next_record(&buffer, 12, 0), refuse(23, 0));
+        assert_eq!(next_record(&buffer, 26, 1), refuse(23, 1));
+        assert_eq!(next_record(&buffer, 34, 26), refuse(23, 26));
+        for end in [35, 1 << 32, u64::MAX] {
+            assert_eq!(next_record(&buffer, end, 0), refuse(15, 0));
+        }
+        buffer[14] = 64;
+        assert_eq!(next_record(&buffer, 26, 13), refuse(23, 13));
     }
 }

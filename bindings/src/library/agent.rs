@@ -52,6 +52,13 @@ extern "C" {
         tracepoint: u16,
         out: *mut [u64; 6],
     ) -> u32;
+
+    fn lilivrez_agent_version() -> u32;
+}
+
+pub fn agent_version() -> u32 {
+    // SAFETY: it is given nothing.
+    unsafe { lilivrez_agent_version() }
 }
 
 pub fn fetch([image, work]: [Span; 2], address: u64, size: u64, out: &mut [u64; 2]) -> u32 {

@@ -1,2 +1,3 @@
 -- The work behind the contracts of `command_frames`.
+mod Ends
 mod Refusals

@@ -4,19 +4,14 @@ use native.Mathlib.Omega.{arith}
 use mathlib.Core.Path.{_≡_, sym, ap, _∙_}
 use borrow.Author.Tests.{eq-eqb, ne-eqb}
 use Rattle.refusals.specs.Numbers.{record-broken}
-use Rattle.reader.specs.Located.{Located}
 use Rattle.reader.specs.Read.{Counted}
-use Rattle.reader.specs.Answers.{locatedOf, countedOf}
-use Rattle.reader.specs.declared.FrameAnswer.{FrameAnswer}
+use Rattle.reader.specs.Answers.{countedOf}
 use Rattle.reader.specs.declared.CountAnswer.{CountAnswer}
 use Rattle.command_frames.specs.Refusals.{refusalIn, brokenIn}
 
 -- r is the code's answer, and y the case that it is
 pub by-count : (f : Counted → ℕ) {r y : CountAnswer} {x : Counted} → countedOf r ≡ x → r ≡ y → f (countedOf y) ≡ f x
 by-count f p q = ap (λ (z : CountAnswer). f (countedOf z)) (sym q) ∙ ap f p
-
-pub by-located : (f : Located → ℕ) {r y : FrameAnswer} {x : Located} → locatedOf r ≡ x → r ≡ y → f (locatedOf y) ≡ f x
-by-located f p q = ap (λ (z : FrameAnswer). f (locatedOf z)) (sym q) ∙ ap f p
 
 -- a is the number of the frame's refusal
 module _ (x : Counted) (a : ℕ) (is : a ≡ refusalIn x) where

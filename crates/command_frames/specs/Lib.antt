@@ -1,2 +1,3 @@
 -- The definitions of `command_frames`.
+pub mod Places
 pub mod Refusals

@@ -3,17 +3,12 @@ use Prim.Native.Nat.{ℕ}
 use mathlib.Core.Bool.{cond}
 use lib.Dec.{eqb}
 use Rattle.refusals.specs.Numbers.{record-broken}
-use Rattle.reader.specs.Located.{Located, frame, refused}
 use Rattle.reader.specs.Read.{Counted, counted, refusedCount}
 
 -- the number of the refusal, and 0 where there is none
 abbrev pub refusalIn : Counted → ℕ
 refusalIn (counted tag start long n) = 0
 refusalIn (refusedCount r) = r .number
-
-abbrev pub walkRefusalIn : Located → ℕ
-walkRefusalIn (frame tag start long) = 0
-walkRefusalIn (refused r) = r .number
 
 -- 1 for "a frame with a broken record (23)", which "does not end the list", else 0
 unfoldable pub brokenIn : Counted → ℕ

@@ -5,7 +5,9 @@ use crate::show::print_frames;
 use crate::show::print_one_frame;
 use crate::show::print_one_record;
 use console_output::print_error;
+use console_output::print_error_at;
 use console_output::print_error_of;
+use console_output::print_failure;
 use console_output::refuse_option;
 use files::Loaded;
 use line_words::numbers::Number;
@@ -19,8 +21,8 @@ enum Asked {
     Record(u64, u64),
 }
 
-// The number that a word of the command is; where it is none, the error is printed.
-fn read_number(word: &[u8]) -> Number {
+// The number that a word of the command is; where it is none, the error is printed. Behind -- no word is an option.
+fn read_number(word: &[u8], is_operand: bool) -> Number {
     let number = line_words::numbers::unsigned(word, 10);
     match number {
         Number::Value(v) => Number::Value(v),
@@ -29,8 +31,10 @@ fn read_number(word: &[u8]) -> Number {
             Number::Large
         }
         Number::Not => {
-            if refuse_option(word) {
-                return Number::Not;
+            if !is_operand {
+                if refuse_option(word) {
+                    return Number::Not;
+                }
             }
             print_error_of(word, b"not a number from 0 on, in decimal digits");
             Number::Not
@@ -40,14 +44,14 @@ fn read_number(word: &[u8]) -> Number {
 
 fn number_at(i: usize) -> Number {
     let mut word = io::buffer();
-    let n = os::arg(i, &mut word);
-    read_number(&word[..n])
+    let n = arguments::get(i, &mut word);
+    read_number(&word[..n], arguments::is_operand(i))
 }
 
 // ---- the file
 fn export(buffer: &[u8]) {
     let mut name = io::buffer();
-    let n = os::arg(4, &mut name);
+    let n = arguments::get(4, &mut name);
     if os::errno() != 0 {
         print_error(b"the name of OUT is too long");
         return;
@@ -69,15 +73,20 @@ fn show_file(name: &[u8], asked: Asked) {
     let mut bytes = io::large_buffer();
     match files::load(name, &mut bytes) {
         Loaded::Bytes(n) => show(&bytes[0..n], asked),
-        Loaded::NotOpened => print_error_of(name, b"the file cannot be opened"),
-        Loaded::NotRead => print_error_of(name, b"the file cannot be read"),
-        Loaded::TooLong => print_error_of(name, b"longer than 65536 bytes: a trace buffer is not"),
+        Loaded::NotOpened(errno) => print_failure(name, errno),
+        Loaded::NotRead(errno) => print_failure(name, errno),
+        Loaded::TooLong => print_error_at(
+            name,
+            0,
+            0,
+            b"longer than 65536 bytes: a trace buffer is not",
+        ),
     }
 }
 
 fn show_named(asked: Asked) {
     let mut name = io::buffer();
-    let n = os::arg(2, &mut name);
+    let n = arguments::get(2, &mut name);
     if os::errno() != 0 {
         print_error(b"the name of FILE is too long");
         return;
@@ -106,18 +115,24 @@ fn show_asked(count: usize) {
 }
 
 fn is_export() -> bool {
+    if arguments::is_operand(3) {
+        return false;
+    }
     let mut word = [0u8; 8];
-    let n = os::arg(3, &mut word);
+    let n = arguments::get(3, &mut word);
     check::same(&word[..n], b"--gdb")
 }
 
-// Whether OUT is FILE, by name.
+// Whether OUT is the file that is read, under whatever name. Where OUT is -, nothing is written over.
 fn is_same_file() -> bool {
-    let mut name = io::buffer();
-    let n = os::arg(2, &mut name);
     let mut out = io::buffer();
-    let m = os::arg(4, &mut out);
-    check::same(&name[..n], &out[..m])
+    let m = arguments::get(4, &mut out);
+    if files::is_standard(&out[..m]) {
+        return false;
+    }
+    let mut name = io::buffer();
+    let n = arguments::get(2, &mut name);
+    files::is_same(&name[..n], &out[..m])
 }
 
 fn show_export(count: usize) {
@@ -134,13 +149,16 @@ fn show_export(count: usize) {
 
 fn refuse_word(i: usize) {
     let mut word = io::buffer();
-    let n = os::arg(i, &mut word);
+    let n = arguments::get(i, &mut word);
     print_error_of(&word[..n], b"a word too many");
 }
 
 fn refuse_option_at(i: usize) -> bool {
+    if arguments::is_operand(i) {
+        return false;
+    }
     let mut word = io::buffer();
-    let n = os::arg(i, &mut word);
+    let n = arguments::get(i, &mut word);
     if check::same(&word[..n], b"--gdb") {
         print_error(b"FILE comes before --gdb: write lilivrez frames FILE --gdb OUT");
         return true;
@@ -149,7 +167,7 @@ fn refuse_option_at(i: usize) -> bool {
 }
 
 pub fn run() {
-    let count = os::arg_count();
+    let count = arguments::count();
     if count < 3 {
         print_error(b"FILE is missing: write lilivrez frames FILE, or lilivrez help");
         return;

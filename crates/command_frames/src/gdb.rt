@@ -1,14 +1,44 @@
 // lilivrez frames FILE --gdb OUT: the frames as a trace file for GDB's `target tfile`, written piece by piece.
+ghost use Prim.Native.Nat.{_≤_};
+use crate::places::place_behind;
+use crate::places::records_of;
 use crate::show::frame_refusal;
-use crate::show::print_completed_frames;
-use crate::show::print_frame;
-use crate::show::records_of;
-use console_output::print;
-use console_output::print_error_of;
+use console_output::print_answer;
+use console_output::print_answer_aside;
+use console_output::print_write_failure;
 use phrases::numbers::append_count;
+use reader::CountAnswer;
 use reader::FrameAnswer;
-use reader::RecordAnswer;
+use reader::RecordStep;
 use std::num::wrapping_add_u64;
+
+// ---- where the frames end
+// Puts into the table where each frame ends, from the newest on, and where the first that is refused would end. The
+// answer is how many are not refused. There are at most 8,192 frames, since a trailer has 8 bytes.
+fn find_ends(buffer: &[u8], used: usize, ends: &mut [usize; 8193]) -> usize
+    ensures { λ r. ⌜ r ≤ 8192 ⌝ }
+{
+    ends[0] = used;
+    let mut n = 0;
+    while n < 8192 {
+        match reader::count_records(buffer, ends[n], 0) {
+            CountAnswer::Refused(refusal) => {
+                return n;
+            }
+            CountAnswer::Records(tag, start, length, records) => {
+                n += 1;
+                ends[n] = start;
+            }
+        }
+    }
+    n
+}
+
+fn end_at(ends: &[usize; 8193], n: usize) -> usize
+    requires { ⌜ n ≤ 8192 ⌝ }
+{
+    ends[n]
+}
 
 // ---- the pieces of the file
 fn write_start(fd: i32, frames: u64) -> bool {
@@ -34,102 +64,117 @@ fn write_variables(fd: i32) -> bool {
     true
 }
 
-fn write_tracepoint(fd: i32, buffer: &[u8], used: usize, number: u64) -> bool {
-    let mut piece = [0u8; 160];
-    let n = tracefile::head::append_tracepoint(&mut piece, 0, buffer, used, number);
-    io::write_all(fd, &piece[..n])
-}
-
-// One line a frame, the oldest first. GDB takes equal lines for one tracepoint.
-fn write_tracepoints(fd: i32, buffer: &[u8], used: usize, frames: u64) -> bool {
-    let mut left = frames;
-    while 0 < left {
-        left -= 1;
-        if !write_tracepoint(fd, buffer, used, left) {
-            return false;
-        }
-    }
-    true
-}
-
 fn write_target(fd: i32) -> bool {
     let mut piece = [0u8; 160];
     let n = tracefile::head::append_target(&mut piece, 0);
     io::write_all(fd, &piece[..n])
 }
 
-fn write_opening(fd: i32, buffer: &[u8], used: usize, number: u64) -> bool {
+fn write_opening(fd: i32, buffer: &[u8], end: usize) -> bool {
     let mut piece = [0u8; 160];
-    let n = tracefile::body::append_opening(&mut piece, 0, buffer, used, number);
+    let n = tracefile::body::append_opening(&mut piece, 0, buffer, end);
     io::write_all(fd, &piece[..n])
 }
 
 // A record has fewer bytes than the trace buffer that it is read from, so that it fits the piece.
-fn write_record(fd: i32, buffer: &[u8], used: usize, number: u64, index: u64) -> bool {
-    let mut piece = io::large_buffer();
-    let n = tracefile::body::append_record(&mut piece, 0, buffer, used, number, index);
+fn write_record(fd: i32, piece: &mut [u8], buffer: &[u8], end: usize, place: usize) -> bool {
+    let n = tracefile::body::append_record(piece, 0, buffer, end, place);
     io::write_all(fd, &piece[..n])
 }
 
-fn write_records(fd: i32, buffer: &[u8], used: usize, number: u64, records: usize) -> bool {
-    let mut index = 0;
-    while index < records {
-        if !write_record(fd, buffer, used, number, index as u64) {
+fn write_records(fd: i32, piece: &mut [u8], buffer: &[u8], start: usize, end: usize) -> bool {
+    let mut place = start;
+    while place < end {
+        if !write_record(fd, piece, buffer, end, place) {
             return false;
         }
-        index += 1;
+        place = place_behind(buffer, end, place);
     }
     true
 }
 
-fn write_frame(fd: i32, buffer: &[u8], used: usize, number: u64) -> bool {
-    if !write_opening(fd, buffer, used, number) {
+fn write_frame(fd: i32, piece: &mut [u8], buffer: &[u8], end: usize) -> bool {
+    if !write_opening(fd, buffer, end) {
         return false;
     }
-    write_records(fd, buffer, used, number, records_of(buffer, used, number))
+    let part = records_of(buffer, end);
+    write_records(fd, piece, buffer, part.start, part.end)
 }
 
-fn write_frames(fd: i32, buffer: &[u8], used: usize, frames: u64) -> bool {
+// The oldest frame comes first.
+fn write_frames(
+    fd: i32,
+    piece: &mut [u8],
+    buffer: &[u8],
+    ends: &[usize; 8193],
+    frames: usize,
+) -> bool
+    requires { ⌜ frames ≤ 8192 ⌝ }
+{
     let mut left = frames;
     while 0 < left {
         left -= 1;
-        if !write_frame(fd, buffer, used, left) {
+        let end = end_at(ends, left);
+        if !write_frame(fd, piece, buffer, end) {
             return false;
         }
     }
     true
 }
 
-fn write_head(fd: i32, buffer: &[u8], used: usize, frames: u64) -> bool {
+fn write_head(fd: i32, frames: u64) -> bool {
     if !write_start(fd, frames) {
         return false;
     }
     if !write_variables(fd) {
         return false;
     }
-    if !write_tracepoints(fd, buffer, used, frames) {
-        return false;
-    }
     write_target(fd)
 }
 
-fn write_file(fd: i32, buffer: &[u8], used: usize, frames: u64) -> bool {
-    if !write_head(fd, buffer, used, frames) {
+fn write_file(fd: i32, buffer: &[u8], ends: &[usize; 8193], frames: usize) -> bool
+    requires { ⌜ frames ≤ 8192 ⌝ }
+{
+    if !write_head(fd, frames as u64) {
         return false;
     }
-    if !write_frames(fd, buffer, used, frames) {
+    let mut piece = io::large_buffer();
+    if !write_frames(fd, &mut piece, buffer, ends, frames) {
         return false;
     }
     io::write_all(fd, b"\x00\x00")
 }
 
-// ---- what cannot be carried over
-fn note_file() {
-    print(
-        b"note: variables have numbers one higher in the file: $v0 is number 1, $v63 number 64
+// ---- what is said of it
+// Where the file goes to standard output, on standard error.
+fn say(name: &[u8], text: &[u8]) {
+    if files::is_standard(name) {
+        print_answer_aside(text);
+        return;
+    }
+    print_answer(text);
+}
+
+fn say_frame(name: &[u8], buffer: &[u8], end: usize, number: u64) {
+    let mut line = [0u8; 160];
+    let n = frame_lines::lines::append_frame(&mut line, 0, buffer, end, number);
+    say(name, &line[..n]);
+}
+
+fn say_completed(name: &[u8], frames: u64) {
+    let mut line = [0u8; 160];
+    let n = frame_lines::lines::append_completed(&mut line, 0, frames, b"frame", 0);
+    say(name, &line[..n]);
+}
+
+fn note_file(name: &[u8]) {
+    say(
+        name,
+        b"note: start GDB without a program: it shows a program's read-only bytes as if they were recorded
+note: find frames by tfind N alone, 0 is the oldest: tfind tracepoint, pc, range, outside go wrong
+note: after tfind none GDB still shows the variables of the last frame
+note: variables have numbers one higher in the file: $v0 is number 1, $v63 number 64
 note: of a variable that a frame recorded twice GDB shows the last value
-note: GDB numbers tracepoints anew; info tracepoints shows the recorded number as the address
-note: GDB's tdump shows nothing: no collect commands are recorded; x and print do
 note: the file names the architecture i386:x86-64: none is recorded
 ",
     );
@@ -147,27 +192,27 @@ fn one_if(is_met: bool) -> u64 {
     if is_met { 1 } else { 0 }
 }
 
-fn tracepoint_of(buffer: &[u8], used: usize, number: u64) -> u16 {
-    match reader::locate(buffer, used, number) {
+fn tracepoint_of(buffer: &[u8], end: usize) -> u16 {
+    match reader::walk(buffer, end) {
         FrameAnswer::Refused(refusal) => 1,
         FrameAnswer::Frame(tag, start, length) => tag.tracepoint,
     }
 }
 
-fn ends_last(buffer: &[u8], used: usize, number: u64, index: u64) -> bool {
-    match reader::read(buffer, used, number, index) {
-        RecordAnswer::Refused(refusal) => false,
-        RecordAnswer::Variable(tag, variable, value) => false,
-        RecordAnswer::Memory(tag, address, length, place) => { u64::MAX - address < length as u64 }
+fn ends_last(buffer: &[u8], end: usize, place: usize) -> bool {
+    match reader::next_record(buffer, end, place) {
+        RecordStep::Refused(refusal) => false,
+        RecordStep::Variable(variable, value, next) => false,
+        RecordStep::Memory(address, length, bytes, next) => u64::MAX - address < length as u64,
     }
 }
 
-fn count_last(buffer: &[u8], used: usize, number: u64, records: usize) -> u64 {
+fn count_last(buffer: &[u8], start: usize, end: usize) -> u64 {
     let mut count: u64 = 0;
-    let mut index = 0;
-    while index < records {
-        count = wrapping_add_u64(count, one_if(ends_last(buffer, used, number, index as u64)));
-        index += 1;
+    let mut place = start;
+    while place < end {
+        count = wrapping_add_u64(count, one_if(ends_last(buffer, end, place)));
+        place = place_behind(buffer, end, place);
     }
     count
 }
@@ -180,23 +225,26 @@ fn with_frame(lost: Lost, tracepoint: u16, last: u64) -> Lost {
     }
 }
 
-fn count_lost(buffer: &[u8], used: usize, frames: u64) -> Lost {
+fn count_lost(buffer: &[u8], ends: &[usize; 8193], frames: usize) -> Lost
+    requires { ⌜ frames ≤ 8192 ⌝ }
+{
     let mut lost = Lost {
         zero: 0,
         large: 0,
         last: 0,
     };
-    let mut number: u64 = 0;
+    let mut number = 0;
     while number < frames {
-        let tracepoint = tracepoint_of(buffer, used, number);
-        let last = count_last(buffer, used, number, records_of(buffer, used, number));
-        lost = with_frame(lost, tracepoint, last);
+        let end = end_at(ends, number);
+        let part = records_of(buffer, end);
+        let last = count_last(buffer, part.start, part.end);
+        lost = with_frame(lost, tracepoint_of(buffer, end), last);
         number += 1;
     }
     lost
 }
 
-fn note(count: u64, word: &[u8], what: &[u8]) {
+fn note(name: &[u8], count: u64, word: &[u8], what: &[u8]) {
     if count == 0 {
         return;
     }
@@ -204,22 +252,24 @@ fn note(count: u64, word: &[u8], what: &[u8]) {
     let a = text_buffer::append(&mut line, 0, b"note: ");
     let b = append_count(&mut line, a, count, word);
     let n = text_buffer::append(&mut line, b, what);
-    print(&line[..n]);
+    say(name, &line[..n]);
 }
 
-fn note_frames(buffer: &[u8], used: usize, frames: u64) {
-    let lost = count_lost(buffer, used, frames);
+fn note_lost(name: &[u8], lost: Lost) {
     note(
+        name,
         lost.zero,
         b"frame",
         b" of tracepoint 0: GDB ends its list of frames before one\n",
     );
     note(
+        name,
         lost.large,
         b"frame",
         b" of a tracepoint from 32768 on: GDB shows its number as negative\n",
     );
     note(
+        name,
         lost.last,
         b"record",
         b" up to the last address: GDB cannot show such a range\n",
@@ -227,42 +277,43 @@ fn note_frames(buffer: &[u8], used: usize, frames: u64) {
 }
 
 // ---- the command
-// The number of the first frame that is refused; where only 24 is met, the number of frames.
-fn first_refused(buffer: &[u8], used: usize) -> u64 {
-    let mut number: u64 = 0;
-    while number < sizes::BUFFER_MOST as u64 {
-        if frame_refusal(buffer, used, number) != 0 {
-            return number;
-        }
-        number += 1;
+// Whether the whole file was written; if not, the error is printed.
+fn write_named(name: &[u8], buffer: &[u8], ends: &[usize; 8193], frames: usize) -> bool
+    requires { ⌜ frames ≤ 8192 ⌝ }
+{
+    let mut path = io::buffer();
+    let draft = files::begin(name, &mut path);
+    if draft.fd < 0 {
+        print_write_failure(name, draft.errno);
+        return false;
     }
-    number
-}
-
-fn write_named(name: &[u8], buffer: &[u8], used: usize, frames: u64) {
-    let fd = os::open_overwrite(name);
-    if fd < 0 {
-        print_error_of(name, b"the file cannot be written");
-        return;
+    if !write_file(draft.fd, buffer, ends, frames) {
+        let errno = os::errno();
+        files::abandon(draft, &path);
+        print_write_failure(name, errno);
+        return false;
     }
-    let is_written = write_file(fd, buffer, used, frames);
-    libc::close(fd);
-    if !is_written {
-        print_error_of(name, b"the file cannot be written");
-        return;
+    let errno = files::finish(draft, &path);
+    if errno != 0 {
+        print_write_failure(name, errno);
+        return false;
     }
-    note_file();
-    note_frames(buffer, used, frames);
-    print_completed_frames(frames, 0);
+    true
 }
 
 // Nothing is written where a frame is refused: the refusal is the answer.
 pub fn export(name: &[u8], buffer: &[u8]) {
-    let used = buffer.len();
-    let number = first_refused(buffer, used);
-    if frame_refusal(buffer, used, number) != refusals::NO_SUCH_FRAME {
-        print_frame(buffer, used, number);
+    let mut ends = [0usize; 8193];
+    let frames = find_ends(buffer, buffer.len(), &mut ends);
+    let oldest = end_at(&ends, frames);
+    if frame_refusal(buffer, oldest) != refusals::NO_SUCH_FRAME {
+        say_frame(name, buffer, oldest, frames as u64);
         return;
     }
-    write_named(name, buffer, used, number);
+    if !write_named(name, buffer, &ends, frames) {
+        return;
+    }
+    note_file(name);
+    note_lost(name, count_lost(buffer, &ends, frames));
+    say_completed(name, frames as u64);
 }

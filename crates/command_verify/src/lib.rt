@@ -2,3 +2,4 @@
 mod answer;
 mod from_gdb;
 pub mod verify;
+mod words;

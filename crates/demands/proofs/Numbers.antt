@@ -35,12 +35,13 @@ use Rattle.machine.proofs.Promises as machine
 use Rattle.reader.specs.Located.{frameBefore, frameBack, located, walked}
 use Rattle.reader.specs.Framed.{framed}
 use Rattle.reader.specs.Read.{reading, counting}
+use Rattle.reader.specs.NextRecord.{recordAt, nextRecord}
 use Rattle.lilivrez_verifier.specs.VerdictNumbers.{verdictNumber as verifyNumber}
 use Rattle.lilivrez_verifier.proofs.Promises as verifier
 use Rattle.lilivrez_agent.proofs.Promises as agent
-use Rattle.lilivrez_frames.specs.FrameValues.{readNumber, countNumber, locateNumber}
+use Rattle.lilivrez_frames.specs.FrameValues.{readNumber, countNumber, locateNumber, stepNumber}
 use Rattle.lilivrez_frames.proofs.Promises as frames
-use Rattle.demands.specs.Refusals.{Entry, verify, fetch, run, run-default, read, count, locate, walk, refusalTable, numbersOf, Inputs, number, byDefault, typed, Gives}
+use Rattle.demands.specs.Refusals.{Entry, verify, fetch, run, run-default, read, count, locate, walk, next-record, refusalTable, numbersOf, Inputs, number, byDefault, typed, Gives}
 use Rattle.demands.specs.Attained.{examples}
 
 -- ---- none else
@@ -75,6 +76,7 @@ listed read i = frames.read-number (i .0) (i .1) (i .2) (i .3)
 listed count i = frames.count-number (i .0) (i .1) (i .2)
 listed locate i = frames.locate-number (i .0) (i .1) (i .2)
 listed walk i = frames.walk-number (i .0) (i .1)
+listed next-record i = frames.step-number (i .0) (i .1) (i .2)
 
 -- ---- each attained
 abbrev allTyped : (x : Entry) → List (Inputs x) → Bool
@@ -104,9 +106,10 @@ examples-typed read = tt
 examples-typed count = tt
 examples-typed locate = tt
 examples-typed walk = tt
+examples-typed next-record = tt
 
 examples-give : (x : Entry) → map (number x) (examples x) ≡ 0 ∷ numbersOf x
-unfolding examples refusalTable verifyNumber runNumber ended inputRefusal endsPast shareAddress verdict after1 after2 after3 pass3 heights0 distances0 heightsAlong longer fault3 runsOff atNext atTarget raise arrive fault2 fault1 first isStart startsFrom startsAtMost heightAfter left needed picked operand classOf opcodes bigEndian moves done binaryDone refDone regDone endDone stackAfter variablesAfter offsetAfter binaryWord zeroDivisor rangeMade fitting holdsRange readable fetchRefusal encode encodeAll littleEndian littleBytes readNumber countNumber locateNumber reading counting framed located walked frameBack frameBefore decodeTrailer divide divideAtMost decode decodeMemory decodeVariable
+unfolding examples refusalTable verifyNumber runNumber ended inputRefusal endsPast shareAddress verdict after1 after2 after3 pass3 heights0 distances0 heightsAlong longer fault3 runsOff atNext atTarget raise arrive fault2 fault1 first isStart startsFrom startsAtMost heightAfter left needed picked operand classOf opcodes bigEndian moves done binaryDone refDone regDone endDone stackAfter variablesAfter offsetAfter binaryWord zeroDivisor rangeMade fitting holdsRange readable fetchRefusal encode encodeAll littleEndian littleBytes readNumber countNumber locateNumber stepNumber reading counting framed nextRecord recordAt located walked frameBack frameBefore decodeTrailer divide divideAtMost decode decodeMemory decodeVariable
 examples-give verify = refl
 examples-give fetch = refl
 examples-give run = refl
@@ -115,6 +118,7 @@ examples-give read = refl
 examples-give count = refl
 examples-give locate = refl
 examples-give walk = refl
+examples-give next-record = refl
 
 pub exact : (x : Entry) (r : ℕ) → Gives x r ↔ T (member r (0 ∷ numbersOf x))
 exact x r = (λ g. rw (← g .2) (listed x (g .0)), λ t. found x (examples x) (examples-typed x) r (rw (examples-give x) t))

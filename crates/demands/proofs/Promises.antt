@@ -1,7 +1,8 @@
 -- The demands (docs/demands.md), sentence by sentence, each as a statement that is proved by citing the crates' pages.
 -- What a reader must believe besides is the definitions that are named here: `verdict`, `Walk` and `Accepted`
 -- (verdict, isa), `ended` (machine), `fetched`, `targetByte` and `InTarget` (memory), `encodeFrame` (frames),
--- `reading`, `counting`, `located` and `walked` (reader), `RunNumbers` (lilivrez_agent), and this crate's specs/.
+-- `reading`, `counting`, `located`, `walked`, `nextRecord` and `RecordsFrom` (reader), `RunNumbers` (lilivrez_agent),
+-- and this crate's specs/.
 use mathlib.Core.Bool.{false}
 use mathlib.Core.List.{List, _∷_, _++_}
 use mathlib.Core.Logic.{_↔_, _≢_}
@@ -33,12 +34,14 @@ use Rattle.runner.specs.declared.Outcome.{Outcome}
 use Rattle.reader.specs.Located.{located, walked, placeAfter}
 use Rattle.reader.specs.Framed.{frameRead, framed}
 use Rattle.reader.specs.Read.{memoryRead, refusedRead, told, reading, counted, counting}
+use Rattle.reader.specs.NextRecord.{nextRecord, RecordsFrom}
 use Rattle.reader.specs.Answers.{locatedOf, readOf, countedOf}
 use Rattle.reader.proofs.Promises as reader
+use Rattle.version.specs.Version.{version-number}
 use Rattle.lilivrez_verifier.specs.VerdictNumbers as verifier
 use Rattle.lilivrez_agent.specs.Lent.{lentAt, fetchValues}
 use Rattle.lilivrez_agent.specs.RunValues.{runValues, RunNumbers}
-use Rattle.lilivrez_frames.specs.FrameValues.{readNumber, readValues, countNumber, countValues, locateNumber, locateValues, walkValues}
+use Rattle.lilivrez_frames.specs.FrameValues.{readNumber, readValues, countNumber, countValues, locateNumber, locateValues, walkValues, stepNumber, stepValues}
 use Rattle.demands.specs.Entry.{Answers, Exports}
 use Rattle.demands.specs.Refusals.{Entry, numbersOf, Gives}
 use Rattle.demands.specs.Stored.{stepsIn, usedIn, numberTold, valuesTold}
@@ -49,13 +52,17 @@ use Rattle.demands.proofs.Reporting as reporting
 use Rattle.encoding.proofs.bytes_known as bytes-known
 use Rattle.encoding.proofs.words_known as words-known
 use Rattle.lilivrez_verifier.proofs.lilivrez_verify as lilivrez-verify
+use Rattle.lilivrez_verifier.proofs.lilivrez_verifier_version as lilivrez-verifier-version
 use Rattle.lilivrez_agent.proofs.fetching.lilivrez_fetch as lilivrez-fetch
 use Rattle.lilivrez_agent.proofs.running.lilivrez_run as lilivrez-run
 use Rattle.lilivrez_agent.proofs.running.lilivrez_run_default as lilivrez-run-default
+use Rattle.lilivrez_agent.proofs.lilivrez_agent_version as lilivrez-agent-version
 use Rattle.lilivrez_frames.proofs.reading.lilivrez_read as lilivrez-read
 use Rattle.lilivrez_frames.proofs.reading.lilivrez_count as lilivrez-count
+use Rattle.lilivrez_frames.proofs.reading.lilivrez_next_record as lilivrez-next-record
 use Rattle.lilivrez_frames.proofs.finding.lilivrez_locate as lilivrez-locate
 use Rattle.lilivrez_frames.proofs.finding.lilivrez_walk as lilivrez-walk
+use Rattle.lilivrez_frames.proofs.lilivrez_frames_version as lilivrez-frames-version
 use Rattle.verifier.proofs.verify as verify
 use Rattle.verifier.proofs.verify_noting as verify-noting
 use Rattle.memory.proofs.fetch as fetch
@@ -64,6 +71,7 @@ use Rattle.runner.proofs.run as run
 use Rattle.runner.proofs.run_default as run-default
 use Rattle.reader.proofs.read as read
 use Rattle.reader.proofs.count_records as count-records
+use Rattle.reader.proofs.next_record as next-record
 use Rattle.reader.proofs.locate as locate
 use Rattle.reader.proofs.walk as walk
 use Rattle.walker.proofs.new as walker-new
@@ -129,6 +137,21 @@ module _ {M : Type 1} where
       (λ _ (buffer, (place, _)) _ (_, (_, (out, _))). now out ≡ walkValues place (walked (now buffer) place))
   lilivrez-walk-answers = lilivrez-walk.Met.met
 
+  pub lilivrez-next-record-answers : Exports M lilivrez-next-record.ended lilivrez-next-record.Symbol.routine
+      (λ _ (buffer, (end, (place, _))) r _. r ≡ stepNumber (nextRecord (now buffer) end place))
+      (λ _ (buffer, (end, (place, _))) _ (_, (_, (_, (out, _)))). now out ≡ stepValues place (nextRecord (now buffer) end place))
+  lilivrez-next-record-answers = lilivrez-next-record.Met.met
+
+  -- each archive's version
+  pub lilivrez-verifier-version-answers : Answers M lilivrez-verifier-version.ended lilivrez-verifier-version.Symbol.routine (λ _ _ r _. r ≡ version-number)
+  lilivrez-verifier-version-answers = lilivrez-verifier-version.Met.met
+
+  pub lilivrez-agent-version-answers : Answers M lilivrez-agent-version.ended lilivrez-agent-version.Symbol.routine (λ _ _ r _. r ≡ version-number)
+  lilivrez-agent-version-answers = lilivrez-agent-version.Met.met
+
+  pub lilivrez-frames-version-answers : Answers M lilivrez-frames-version.ended lilivrez-frames-version.Symbol.routine (λ _ _ r _. r ≡ version-number)
+  lilivrez-frames-version-answers = lilivrez-frames-version.Met.met
+
   -- the entries behind them, for code of the same toolchain
   pub verify-answers : Answers M verify.ended verify.Symbol.routine (λ _ (expression, _) r _. verdictOf r ≡ verdict (now expression))
   verify-answers = verify.Met.met
@@ -170,6 +193,9 @@ module _ {M : Type 1} where
 
   pub walk-answers : Answers M walk.ended walk.Symbol.routine (λ _ (buffer, (place, _)) r _. locatedOf r ≡ walked (now buffer) place)
   walk-answers = walk.Met.met
+
+  pub next-record-answers : Answers M next-record.ended next-record.Symbol.routine (λ _ (buffer, (end, (place, _))) r _. r ≡ nextRecord (now buffer) end place)
+  next-record-answers = next-record.Met.met
 
   -- the walker: made before the newest frame, and one step
   pub walker-new-answers : Answers M walker-new.ended walker-new.Symbol.routine (λ _ (buffer, (used, _)) r _. (r .buffer ≡ buffer) × (r .place ≡ used))
@@ -213,7 +239,7 @@ module _ {g : Given} {number : ℕ} {values v b : List ℕ} (tells : RunNumbers 
 
   -- ==== Demand 2
   -- "The verifier, the runner and the frame reader agree with the GDB manual's bytecode descriptions as document 01
-  -- makes them exact": the contracts above, of `verdict`, `ended`, `reading`, `counting` and `walked`.
+  -- makes them exact": the contracts above, of `verdict`, `ended`, `reading`, `counting`, `walked` and `nextRecord`.
   -- "Each recorded byte is the target's byte at the recorded address": of each record, whether the run completed or was
   -- refused; and byte by byte: a span holds its address, and it is the target's byte there.
   pub recorded-bytes : AllFromTarget (g .target) made
@@ -228,8 +254,8 @@ module _ {g : Given} {number : ℕ} {values v b : List ℕ} (tells : RunNumbers 
       (leaving.all-at (g .target) before (memory a bytes) behind (rw p at recorded-bytes))
 
   -- "Reading the newest frame after a completed run gives exactly the records that run made": the frame read has them,
-  -- and so have their number and each in its place with its bytes, and none past the last; and the frames that were
-  -- there before are read as before, one number higher.
+  -- and so have their number and each in its place with its bytes, and none past the last; the record walker goes over
+  -- them; and the frames that were there before are read as before, one number higher.
   module _ (done : number ≡ 0) where
     abbrev tag : Tag
     tag = tagOf (g .tracepoint)
@@ -265,6 +291,9 @@ module _ {g : Given} {number : ℕ} {values v b : List ℕ} (tells : RunNumbers 
 
     pub newest-past : (i : ℕ) → length made ≤ i → reading b (usedIn values) 0 i ≡ refusedRead (refusal no-such-record (g .used))
     newest-past = rw (used-is, buffer-is) (reader.newest-past (g .buffer) (g .used) tag made (leaves .small) (leaves .fits) (machine.tag-fits (tells .typed)) well)
+
+    pub newest-walked : RecordsFrom b (place made) (g .used) made (refusal no-such-record (place made))
+    newest-walked = rw buffer-is (reader.newest-walked (g .buffer) (g .used) tag made (leaves .small) (leaves .fits) (machine.tag-fits (tells .typed)) well)
 
     pub older-count : (frame : ℕ) → counting b (usedIn values) (suc frame) ≡ counting (g .buffer) (g .used) frame
     older-count = rw (used-is, buffer-is) (reader.older-count (g .buffer) (g .used) tag made (leaves .small) (leaves .fits) (machine.tag-fits (tells .typed)))

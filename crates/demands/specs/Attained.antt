@@ -5,7 +5,7 @@ use lib.ListN.{replicate}
 use Rattle.sizes.specs.Sizes.{variable-count}
 use Rattle.memory.specs.Spans.{Target, target}
 use Rattle.machine.specs.Given.{Given, given}
-use Rattle.demands.specs.Refusals.{Entry, verify, fetch, run, run-default, read, count, locate, walk, Inputs}
+use Rattle.demands.specs.Refusals.{Entry, verify, fetch, run, run-default, read, count, locate, walk, next-record, Inputs}
 
 -- the bytes l, n times
 abbrev times : ℕ → List ℕ → List ℕ
@@ -98,3 +98,4 @@ examples read = (recorded, 21, 0, 0) ∷ ([], 1, 0, 0) ∷ (0x00 ∷ [], 1, 0, 0
 examples count = (empty, 8, 0) ∷ ([], 1, 0) ∷ (0x00 ∷ [], 1, 0) ∷ (broken, 9, 0) ∷ ([], 0, 0) ∷ []
 examples locate = (empty, 8, 0) ∷ ([], 1, 0) ∷ (0x00 ∷ [], 1, 0) ∷ ([], 0, 0) ∷ []
 examples walk = (empty, 8) ∷ ([], 1) ∷ (0x00 ∷ [], 1) ∷ ([], 0) ∷ []
+examples next-record = (recorded, 13, 0) ∷ ([], 1, 0) ∷ (broken, 1, 0) ∷ ([], 0, 0) ∷ []

@@ -16,8 +16,9 @@ use Rattle.machine.specs.Run as machine
 use Rattle.verdict.specs.Verdict.{verdict}
 use Rattle.reader.specs.Located.{located, walked}
 use Rattle.reader.specs.Read.{reading, counting}
+use Rattle.reader.specs.NextRecord.{nextRecord}
 use Rattle.lilivrez_verifier.specs.VerdictNumbers as verifier
-use Rattle.lilivrez_frames.specs.FrameValues.{readNumber, countNumber, locateNumber}
+use Rattle.lilivrez_frames.specs.FrameValues.{readNumber, countNumber, locateNumber, stepNumber}
 
 pub data Entry : Type 0 where
   verify : Entry
@@ -28,6 +29,7 @@ pub data Entry : Type 0 where
   count : Entry
   locate : Entry
   walk : Entry
+  next-record : Entry
 
 unfoldable pub refusalTable : List (ℕ × List Entry)
 refusalTable =
@@ -45,7 +47,7 @@ refusalTable =
     -- "first address + length exceeds 2^64; spans share an address"
     ∷ (12, fetch ∷ run ∷ run-default ∷ []) ∷ (13, fetch ∷ run ∷ run-default ∷ [])
     -- "over 256 registers; buffer over 65,536 or used beyond its length"
-    ∷ (14, run ∷ run-default ∷ []) ∷ (15, run ∷ run-default ∷ read ∷ count ∷ locate ∷ walk ∷ [])
+    ∷ (14, run ∷ run-default ∷ []) ∷ (15, run ∷ run-default ∷ read ∷ count ∷ locate ∷ walk ∷ next-record ∷ [])
     -- "allowance spent"; the default of 1,024 never is
     ∷ (16, run ∷ [])
     -- "divisor zero; register number not lent"
@@ -57,9 +59,9 @@ refusalTable =
     -- "record, or trailer at end, longer than the free bytes"
     ∷ (21, run ∷ run-default ∷ [])
     -- "reader: trailer broken; record broken"
-    ∷ (22, read ∷ count ∷ locate ∷ walk ∷ []) ∷ (23, read ∷ count ∷ [])
+    ∷ (22, read ∷ count ∷ locate ∷ walk ∷ []) ∷ (23, read ∷ count ∷ next-record ∷ [])
     -- "no such frame; no such record"
-    ∷ (24, read ∷ count ∷ locate ∷ walk ∷ []) ∷ (25, read ∷ [])
+    ∷ (24, read ∷ count ∷ locate ∷ walk ∷ []) ∷ (25, read ∷ next-record ∷ [])
     ∷ []
 
 -- ---- the numbers of an entry
@@ -72,6 +74,7 @@ place read = 4
 place count = 5
 place locate = 6
 place walk = 7
+place next-record = 8
 
 abbrev pub numbersIn : Entry → List (ℕ × List Entry) → List ℕ
 numbersIn x [] = []
@@ -82,7 +85,7 @@ numbersOf x = numbersIn x refusalTable
 
 -- ---- what an entry answers
 -- what decides its refusal: an expression; spans, an address and a size; what a run is given; a buffer, its used length
--- or the walker's place, a frame's number and a record's
+-- or the walker's place, a frame's number and a record's; a buffer, the end of a frame's records and a place in it
 abbrev pub Inputs : Entry → Type 0
 Inputs verify = List ℕ
 Inputs fetch = Target × ℕ × ℕ
@@ -92,6 +95,7 @@ Inputs read = List ℕ × ℕ × ℕ × ℕ
 Inputs count = List ℕ × ℕ × ℕ
 Inputs locate = List ℕ × ℕ × ℕ
 Inputs walk = List ℕ × ℕ
+Inputs next-record = List ℕ × ℕ × ℕ
 
 -- "An entry without an allowance uses 1,024", whatever allowance stands in g
 abbrev pub byDefault : Given → Given
@@ -107,6 +111,7 @@ number read i = readNumber (reading (i .0) (i .1) (i .2) (i .3))
 number count i = countNumber (counting (i .0) (i .1) (i .2))
 number locate i = locateNumber (located (i .0) (i .1) (i .2))
 number walk i = locateNumber (walked (i .0) (i .1))
+number next-record i = stepNumber (nextRecord (i .0) (i .1) (i .2))
 
 -- the inputs are what their types say: bytes below 256, numbers below 2^64, 64 variables
 abbrev allBelow : ℕ → List ℕ → Bool
@@ -130,6 +135,7 @@ typed read i = allBelow 256 (i .0) && allBelow (2 ^ 64) (i .1 ∷ i .2 ∷ i .3 
 typed count i = allBelow 256 (i .0) && allBelow (2 ^ 64) (i .1 ∷ i .2 ∷ [])
 typed locate i = allBelow 256 (i .0) && allBelow (2 ^ 64) (i .1 ∷ i .2 ∷ [])
 typed walk i = allBelow 256 (i .0) && allBelow (2 ^ 64) (i .1 ∷ [])
+typed next-record i = allBelow 256 (i .0) && allBelow (2 ^ 64) (i .1 ∷ i .2 ∷ [])
 
 -- on some inputs it gives the number r
 abbrev pub Gives : Entry → ℕ → Type 0

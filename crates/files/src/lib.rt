@@ -1,13 +1,28 @@
-// Files that a command names, and standard input: read whole, and written.
+// Files that a command names: read whole, and written. The name - is standard input, and standard output.
+mod identities;
+mod status;
+mod writing;
+
+pub use identities::FileIdentity;
+pub use identities::identity;
+pub use identities::is_same;
+pub use identities::is_same_file;
+pub use writing::Draft;
+pub use writing::abandon;
+pub use writing::begin;
+pub use writing::finish;
+pub use writing::save;
 ghost use mathlib.Core.Path.{_≡_};
 ghost use Prim.Native.Nat.{ℕ, _≤_};
 ghost use lib.ListN.{length};
+use libc::STDIN_FILENO;
 
-// A file's bytes, so many; or it cannot be opened, or read; or it has more bytes than there is room for.
+// A file's bytes, so many; or it cannot be opened, or read, by the number of the system's error; or it has more bytes
+// than there is room for.
 pub enum Loaded {
     Bytes(usize),
-    NotOpened,
-    NotRead,
+    NotOpened(i32),
+    NotRead(i32),
     TooLong,
 }
 
@@ -24,6 +39,26 @@ pub fn mebibyte_buffer() -> [u8; 1048576]
     [0; 1048576]
 }
 
+// Whether the name stands for standard input or standard output.
+pub fn is_standard(name: &[u8]) -> bool {
+    check::same(name, b"-")
+}
+
+// Opens a file for reading, and answers a descriptor; or -1, where os::errno() tells why.
+pub fn open(name: &[u8]) -> i32 {
+    if is_standard(name) {
+        return STDIN_FILENO;
+    }
+    os::open_read(name)
+}
+
+// Closes what `open` opened; standard input stays open.
+pub fn close(fd: i32) {
+    if fd != STDIN_FILENO {
+        libc::close(fd);
+    }
+}
+
 // Puts what is left of an open file at the start of `bytes`.
 pub fn load_rest(fd: i32, bytes: &mut [u8]) -> Loaded
     ensures { λ r. ⌜ ((n : ℕ) → r ≡ Loaded.Bytes n → n ≤ length (now (bytes .exit))) ⌝ }
@@ -32,7 +67,7 @@ pub fn load_rest(fd: i32, bytes: &mut [u8]) -> Loaded
     while n < bytes.len() {
         let got = libc::read(fd, &mut bytes[n..]);
         if got < 0 {
-            return Loaded::NotRead;
+            return Loaded::NotRead(os::errno());
         }
         let more = io::count(got, &bytes[n..]);
         if more == 0 {
@@ -50,24 +85,11 @@ pub fn load_rest(fd: i32, bytes: &mut [u8]) -> Loaded
 pub fn load(name: &[u8], bytes: &mut [u8]) -> Loaded
     ensures { λ r. ⌜ ((n : ℕ) → r ≡ Loaded.Bytes n → n ≤ length (now (bytes .exit))) ⌝ }
 {
-    let fd = os::open_read(name);
+    let fd = open(name);
     if fd < 0 {
-        return Loaded::NotOpened;
+        return Loaded::NotOpened(os::errno());
     }
     let loaded = load_rest(fd, bytes);
-    libc::close(fd);
+    close(fd);
     loaded
-}
-
-// Writes the bytes over the file. The answer is whether all of them were written.
-pub fn save(name: &[u8], bytes: &[u8]) -> bool {
-    let fd = os::open_overwrite(name);
-    if fd < 0 {
-        return false;
-    }
-    let is_written = io::write_all(fd, bytes);
-    if libc::close(fd) < 0 {
-        return false;
-    }
-    is_written
 }

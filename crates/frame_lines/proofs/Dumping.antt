@@ -15,8 +15,7 @@ use Rattle.hexadecimal.specs.Hex.{whole, withBytes, readFrom, pairOf}
 use Rattle.text_buffer.specs.Text.{bytesOf}
 use Rattle.text_buffer.proofs.Promises.{drop-out}
 use Rattle.hexadecimal.proofs.Promises.{nothing-read, blank-read, pair-read}
-use Rattle.frames.specs.declared.Tag.{Tag}
-use Rattle.reader.specs.Read.{memoryRead}
+use Rattle.reader.specs.declared.RecordStep.the-variants.{Memory}
 use Rattle.phrases.specs.Numbers.{hexText}
 use Rattle.phrases.proofs.Promises.{digits-length}
 use Rattle.frame_lines.specs.Dump.{cell, column, shownByte, shown, dumpLine, dumpText}
@@ -95,16 +94,16 @@ module _ (l : List ℕ) (p n o k : ℕ) (inside : o < n) (is : k ≡ min 16 (n -
       ap (λ (j : ℕ). take j m) f ∙ sym (take-take 16 (n - o) m g))
       ∙ ap (take 16) (sym d)
 
-  pub dump-some : (t : Tag) (a first : ℕ) → first ≡ (a + o) % 2 ^ 64 → dumpLine first (take (p + o + k - (p + o)) (drop (p + o) l)) ≡ dumpText l (memoryRead t a n p) o
+  pub dump-some : (a next first : ℕ) → first ≡ (a + o) % 2 ^ 64 → dumpLine first (take (p + o + k - (p + o)) (drop (p + o) l)) ≡ dumpText l (Memory a n p next) o
   unfolding dumpText
-  dump-some t a first f =
+  dump-some a next first f =
       ap (λ (x : ℕ). dumpLine x (take (p + o + k - (p + o)) (drop (p + o) l))) f
       ∙ ap (dumpLine ((a + o) % 2 ^ 64)) line-part
       ∙ sym (rw (lt-ltb o n inside))
 
-pub dump-past : (l : List ℕ) (t : Tag) (a n p o : ℕ) → n ≤ o → [] ≡ dumpText l (memoryRead t a n p) o
+pub dump-past : (l : List ℕ) (a n p next o : ℕ) → n ≤ o → [] ≡ dumpText l (Memory a n p next) o
 unfolding dumpText
-dump-past l t a n p o h = rw (le-ltb o n h)
+dump-past l a n p next o h = rw (le-ltb o n h)
 
 -- ---- what the column shows is read back
 pub column-back : (p room n : ℕ) (l : List ℕ) → AllBytes l → length l ≤ n → length l ≤ room

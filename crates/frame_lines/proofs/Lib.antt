@@ -2,3 +2,4 @@
 pub mod Promises
 mod Completing
 mod Dumping
+mod Showing

@@ -7,7 +7,8 @@ use lib.Dec.{ltb}
 use lib.ListN.{take, drop}
 use Rattle.hexadecimal.specs.Hex.{isBetween, pairOf}
 use Rattle.text_buffer.specs.Text.{bytesOf}
-use Rattle.reader.specs.Read.{Read, memoryRead, variableRead, refusedRead}
+use Rattle.reader.specs.declared.RecordStep.{RecordStep}
+use Rattle.reader.specs.declared.RecordStep.the-variants.{Memory, Variable, Refused}
 use Rattle.phrases.specs.Numbers.{hexText}
 
 -- a blank and the two digits of a byte; three blanks where there is no byte
@@ -31,10 +32,10 @@ shown (b ∷ l) = shownByte b ∷ shown l
 unfoldable pub dumpLine : ℕ → List ℕ → List ℕ
 dumpLine address l = bytesOf "    " ++ hexText address ++ bytesOf " " ++ column 16 l ++ bytesOf "  |" ++ shown l ++ bytesOf "|\n"
 
--- of what was read from the buffer: the line of the record's bytes from offset o on, up to 16 of them; no line past the
--- last byte, and none of what is no memory record. Addresses are modulo 2^64.
-unfoldable pub dumpText : List ℕ → Read → ℕ → List ℕ
-dumpText buffer (memoryRead tag address long place) o =
+-- of what the record walker tells of the buffer: the line of the record's bytes from offset o on, up to 16 of them; no
+-- line past the last byte, and none of what is no memory record. Addresses are modulo 2^64.
+unfoldable pub dumpText : List ℕ → RecordStep → ℕ → List ℕ
+dumpText buffer (Memory address long place next) o =
     cond (ltb o long) (dumpLine ((address + o) % 2 ^ 64) (take 16 (drop o (take long (drop place buffer))))) []
-dumpText buffer (variableRead tag number value) o = []
-dumpText buffer (refusedRead r) o = []
+dumpText buffer (Variable number value next) o = []
+dumpText buffer (Refused r) o = []

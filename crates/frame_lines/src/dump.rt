@@ -4,11 +4,11 @@ ghost use Prim.Native.Nat.{min};
 ghost use lib.ListN.{drop};
 ghost use Rattle.io.specs.Counts.{Counts};
 ghost use Rattle.text_buffer.specs.Text.{Appends};
-ghost use Rattle.reader.specs.Read.{reading};
+ghost use Rattle.reader.specs.NextRecord.{nextRecord};
 ghost use Rattle.frame_lines.specs.Dump.{cell, column, shownByte, shown, dumpLine, dumpText};
 use hexadecimal::append_byte;
 use phrases::numbers::append_address;
-use reader::RecordAnswer;
+use reader::RecordStep;
 use text_buffer::append;
 
 // The byte at place i, or blanks where there is none.
@@ -88,31 +88,30 @@ fn least(a: usize, b: usize) -> usize
     b
 }
 
-// Appends the line of the bytes from `offset` on of record `index` of frame `number`. Nothing is appended past the last
-// byte, or where there is no memory record.
+// Appends the line of the bytes from `offset` on of the record at `place` of the frame whose records end at `end`.
+// Nothing is appended past the last byte, or where there is no memory record.
 pub fn append_dump(
     out: &mut [u8],
     at: usize,
     buffer: &[u8],
-    used: usize,
-    number: u64,
-    index: u64,
+    end: usize,
+    place: usize,
     offset: usize,
 ) -> usize
     ensures count { λ r. ⌜ Counts r (now (out .exit)) ⌝ }
-    ensures text { λ r. ⌜ Appends (now (out .entry)) at (dumpText (now (buffer .entry)) (reading (now (buffer .entry)) used number index) offset) (now (out .exit)) r ⌝ }
+    ensures text { λ r. ⌜ Appends (now (out .entry)) at (dumpText (now (buffer .entry)) (nextRecord (now (buffer .entry)) end place) offset) (now (out .exit)) r ⌝ }
 {
-    match reader::read(buffer, used, number, index) {
-        RecordAnswer::Refused(refusal) => append(out, at, b""),
-        RecordAnswer::Variable(tag, variable, value) => append(out, at, b""),
-        RecordAnswer::Memory(tag, address, length, place) => {
+    match reader::next_record(buffer, end, place) {
+        RecordStep::Refused(refusal) => append(out, at, b""),
+        RecordStep::Variable(variable, value, next) => append(out, at, b""),
+        RecordStep::Memory(address, length, bytes, next) => {
             if length <= offset {
                 return append(out, at, b"");
             }
-            let start = place + offset;
-            let end = start + least(16, length - offset);
+            let start = bytes + offset;
+            let behind = start + least(16, length - offset);
             let first = std::num::wrapping_add_u64(address, offset as u64);
-            append_line(out, at, first, &buffer[start..end])
+            append_line(out, at, first, &buffer[start..behind])
         }
     }
 }

@@ -1,7 +1,8 @@
 // The lines for a frame, for a record, and for what was shown.
 ghost use Rattle.io.specs.Counts.{Counts};
 ghost use Rattle.text_buffer.specs.Text.{Appends};
-ghost use Rattle.reader.specs.Read.{reading, counting};
+ghost use Rattle.reader.specs.Read.{counting};
+ghost use Rattle.reader.specs.NextRecord.{nextRecord};
 ghost use Rattle.frame_lines.specs.Lines.{frameRefusedText, noFrameText, noRecordText, someFrameText, memoryText, variableRecordText, frameText, recordText, completedFramesText};
 use frames::Tag;
 use phrases::numbers::append_address;
@@ -10,7 +11,7 @@ use phrases::numbers::append_value;
 use phrases::refused::append_refusal;
 use phrases::refused::append_refused_at;
 use reader::CountAnswer;
-use reader::RecordAnswer;
+use reader::RecordStep;
 use refusals::Refusal;
 use text_buffer::append;
 use text_buffer::append_number;
@@ -35,7 +36,14 @@ fn append_no_frame(out: &mut [u8], at: usize, refusal: Refusal, number: u64) -> 
     append(out, c, b"\n")
 }
 
-fn append_no_record(out: &mut [u8], at: usize, refusal: Refusal, number: u64, index: u64) -> usize
+// What the reader refuses of record `index` of frame `number`.
+pub fn append_no_record(
+    out: &mut [u8],
+    at: usize,
+    refusal: Refusal,
+    number: u64,
+    index: u64,
+) -> usize
     ensures count { λ r. ⌜ Counts r (now (out .exit)) ⌝ }
     ensures text { λ r. ⌜ Appends (now (out .entry)) at (noRecordText refusal number index) (now (out .exit)) r ⌝ }
 {
@@ -66,7 +74,7 @@ fn append_some_frame(
     let f = append_count(out, e, records as u64, b"record");
     let g = append(out, f, b", ");
     let h = append_count(out, g, length as u64, b"byte");
-    append(out, h, b"\n")
+    append(out, h, b" encoded\n")
 }
 
 fn append_memory(out: &mut [u8], at: usize, index: u64, address: u64, length: usize) -> usize
@@ -95,12 +103,12 @@ fn append_variable(out: &mut [u8], at: usize, index: u64, variable: u64, value: 
     append(out, f, b"\n")
 }
 
-// Appends the line for frame `number`: what it has, or why it is refused.
-pub fn append_frame(out: &mut [u8], at: usize, buffer: &[u8], used: usize, number: u64) -> usize
+// Appends the line for the frame that ends at `end`, with its number: what it has, or why it is refused.
+pub fn append_frame(out: &mut [u8], at: usize, buffer: &[u8], end: usize, number: u64) -> usize
     ensures count { λ r. ⌜ Counts r (now (out .exit)) ⌝ }
-    ensures text { λ r. ⌜ Appends (now (out .entry)) at (frameText number (counting (now (buffer .entry)) used number)) (now (out .exit)) r ⌝ }
+    ensures text { λ r. ⌜ Appends (now (out .entry)) at (frameText number (counting (now (buffer .entry)) end 0)) (now (out .exit)) r ⌝ }
 {
-    match reader::count_records(buffer, used, number) {
+    match reader::count_records(buffer, end, 0) {
         CountAnswer::Records(tag, start, length, records) => {
             append_some_frame(out, at, number, tag, records, length)
         }
@@ -108,26 +116,27 @@ pub fn append_frame(out: &mut [u8], at: usize, buffer: &[u8], used: usize, numbe
     }
 }
 
-// Appends the line for record `index` of frame `number`: what it has, or why it is refused.
+// Appends the line for the record at `place` of the frame whose records end at `end`, with its number; nothing where
+// there is none.
 pub fn append_record(
     out: &mut [u8],
     at: usize,
     buffer: &[u8],
-    used: usize,
-    number: u64,
+    end: usize,
+    place: usize,
     index: u64,
 ) -> usize
     ensures count { λ r. ⌜ Counts r (now (out .exit)) ⌝ }
-    ensures text { λ r. ⌜ Appends (now (out .entry)) at (recordText number index (reading (now (buffer .entry)) used number index)) (now (out .exit)) r ⌝ }
+    ensures text { λ r. ⌜ Appends (now (out .entry)) at (recordText index (nextRecord (now (buffer .entry)) end place)) (now (out .exit)) r ⌝ }
 {
-    match reader::read(buffer, used, number, index) {
-        RecordAnswer::Memory(tag, address, length, place) => {
+    match reader::next_record(buffer, end, place) {
+        RecordStep::Memory(address, length, bytes, next) => {
             append_memory(out, at, index, address, length)
         }
-        RecordAnswer::Variable(tag, variable, value) => {
+        RecordStep::Variable(variable, value, next) => {
             append_variable(out, at, index, variable, value)
         }
-        RecordAnswer::Refused(refusal) => append_no_record(out, at, refusal, number, index),
+        RecordStep::Refused(refusal) => append(out, at, b""),
     }
 }
 

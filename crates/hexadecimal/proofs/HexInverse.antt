@@ -9,7 +9,7 @@ use lib.Dec.{leb, lit<}
 use lib.ListN.{length}
 use borrow.Author.Tests.{leb-true}
 use Rattle.io.specs.Digits.{glyph}
-use Rattle.hexadecimal.specs.Hex.{isBetween, digitOf, isLower, allLower, HexReading, whole, withBytes, readFrom, pairOf, hexOf}
+use Rattle.hexadecimal.specs.Hex.{isBetween, digitOf, isLower, allLower, HexReading, whole, withBytes, readPast, readFrom, pairOf, hexOf}
 use Rattle.hexadecimal.proofs.Hexing.{inside, above}
 use Rattle.hexadecimal.proofs.HexWriting.{glyph-low, glyph-high, pair-is, pair-read}
 
@@ -72,7 +72,7 @@ back-pair p room x t h b =
     (ap (λ (s : HexReading). s .end) e ∙ b .0, ap (λ (s : HexReading). hexOf (s .bytes)) e ∙ ap (λ (m : List ℕ). pairOf x ++ m) (b .1))
 
 pub write-back : (p room n : ℕ) (t : List ℕ) → allLower t ≡ true → length t ≡ 2 * n → n ≤ room → Back t (readFrom p room t)
-unfolding allLower hexOf readFrom
+unfolding allLower hexOf readPast
 write-back p room n [] low e h = (refl, refl)
 write-back p room n (a ∷ []) low e h = absurd (omega (arith, e))
 write-back p room zero (a ∷ b ∷ t) low e h = absurd (omega (arith, e))

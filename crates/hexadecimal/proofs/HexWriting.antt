@@ -5,16 +5,16 @@ use native.Mathlib.Nat.{mod-lt, div-add-mod'}
 use native.Mathlib.Omega.{arith}
 use native.Mathlib.Numerals.{add-one}
 use native.Mathlib.Decide.{decLt}
-use mathlib.Core.Bool.{false}
-use mathlib.Core.Path.{_≡_, refl, sym, ap, _∙_}
+use mathlib.Core.Bool.{Bool, true, false, _&&_}
+use mathlib.Core.Path.{_≡_, refl, sym, ap, subst, _∙_}
 use mathlib.Core.List.{List, [], _∷_, _++_}
-use lib.Dec.{lit<}
+use lib.Dec.{eqb, lit<}
 use lib.ListN.{length, take, getD}
 use lib.Seq.{take-suc, take-all}
 use borrow.Author.Tests.{lt-ltb, le-ltb, ne-eqb}
 use Rattle.io.specs.Digits.{glyph}
 use Rattle.encoding.specs.Ranges.{AllBytes}
-use Rattle.hexadecimal.specs.Hex.{isBlank, digitOf, afterHigh, tokenOf, whole, withBytes, readFrom, pairOf, hexOf}
+use Rattle.hexadecimal.specs.Hex.{isBlank, isSeparator, digitOf, afterHigh, digitsOf, isPrefixed, tokenOf, whole, withBytes, readPast, readFrom, pairOf, hexOf}
 use Rattle.text_buffer.specs.Text.{Appends}
 use Rattle.hexadecimal.specs.declared.Token.the-variants.{Byte}
 use Rattle.text_buffer.proofs.Promises.{appends-then, appends-same, appends-nothing}
@@ -68,48 +68,72 @@ module _ {b₀ : List ℕ} {at : ℕ} {s b : List ℕ} {n i : ℕ} (p : Encoding
   encoding-end h = appends-same (hexOf (take i s)) (hexOf s) (ap hexOf (take-all i s h)) (p .text)
 
 -- ---- what was written is read back
-digit-low : (d : ℕ) → d < 10 → (isBlank (glyph d) ≡ false) × (digitOf (glyph d) ≡ d)
-unfolding isBlank digitOf
+-- a digit is no separator, opens no comment, and is not the x of 0x
+pub record IsDigit (c d : ℕ) : Type 0 where
+  pub no-separator : isSeparator c ≡ false
+  pub no-comment : eqb c 35 ≡ false
+  pub no-x : eqb c 120 ≡ false
+  pub value : digitOf c ≡ d
+
+digit-low : (d : ℕ) → d < 10 → IsDigit (48 + d) d
+unfolding isSeparator isBlank digitOf
 digit-low d h =
     let c = 48 + d in
-    let e : c - 48 ≡ d = omega arith in (
-      rw (← (glyph-low d h), ne-eqb c 32 (λ z. omega (arith, z)), ne-eqb c 9 (λ z. omega (arith, z)), ne-eqb c 10 (λ z. omega (arith, z)), ne-eqb c 13 (λ z. omega (arith, z))),
-      rw (← (glyph-low d h), inside 48 57 c (omega arith) (omega arith)) e,
-    )
+    let e : c - 48 ≡ d = omega arith in
+    record {
+      no-separator = rw (ne-eqb c 32 (λ z. omega (arith, z)), ne-eqb c 9 (λ z. omega (arith, z)), ne-eqb c 10 (λ z. omega (arith, z)), ne-eqb c 13 (λ z. omega (arith, z)), ne-eqb c 44 (λ z. omega (arith, z)), ne-eqb c 58 (λ z. omega (arith, z)), ne-eqb c 123 (λ z. omega (arith, z)), ne-eqb c 125 (λ z. omega (arith, z)));
+      no-comment = ne-eqb c 35 (λ z. omega (arith, z));
+      no-x = ne-eqb c 120 (λ z. omega (arith, z));
+      value = rw (inside 48 57 c (omega arith) (omega arith)) e;
+    }
 
-digit-high : (d : ℕ) → 10 ≤ d → d < 16 → (isBlank (glyph d) ≡ false) × (digitOf (glyph d) ≡ d)
-unfolding isBlank digitOf
+digit-high : (d : ℕ) → 10 ≤ d → d < 16 → IsDigit (87 + d) d
+unfolding isSeparator isBlank digitOf
 digit-high d g h =
     let c = 87 + d in
-    let e : c - 87 ≡ d = omega arith in (
-      rw (← (glyph-high d g), ne-eqb c 32 (λ z. omega (arith, z)), ne-eqb c 9 (λ z. omega (arith, z)), ne-eqb c 10 (λ z. omega (arith, z)), ne-eqb c 13 (λ z. omega (arith, z))),
-      rw (← (glyph-high d g), above 48 57 c (omega arith), above 65 70 c (omega arith), inside 97 102 c (omega arith) (omega arith)) e,
-    )
+    let e : c - 87 ≡ d = omega arith in
+    record {
+      no-separator = rw (ne-eqb c 32 (λ z. omega (arith, z)), ne-eqb c 9 (λ z. omega (arith, z)), ne-eqb c 10 (λ z. omega (arith, z)), ne-eqb c 13 (λ z. omega (arith, z)), ne-eqb c 44 (λ z. omega (arith, z)), ne-eqb c 58 (λ z. omega (arith, z)), ne-eqb c 123 (λ z. omega (arith, z)), ne-eqb c 125 (λ z. omega (arith, z)));
+      no-comment = ne-eqb c 35 (λ z. omega (arith, z));
+      no-x = ne-eqb c 120 (λ z. omega (arith, z));
+      value = rw (above 48 57 c (omega arith), above 65 70 c (omega arith), inside 97 102 c (omega arith) (omega arith)) e;
+    }
 
-digit-back : (d : ℕ) → d < 16 → (isBlank (glyph d) ≡ false) × (digitOf (glyph d) ≡ d)
-digit-back d h = elim (decLt d 10) [ yes l ↦ digit-low d l | no g ↦ digit-high d (omega arith) h ]
+digit-back : (d : ℕ) → d < 16 → IsDigit (glyph d) d
+digit-back d h =
+    elim (decLt d 10) [
+      | yes l ↦ subst (λ (c : ℕ). IsDigit c d) (glyph-low d l) (digit-low d l)
+      | no g ↦ subst (λ (c : ℕ). IsDigit c d) (glyph-high d (omega arith)) (digit-high d (omega arith) h)
+    ]
 
-pair-back : (p b : ℕ) (l : List ℕ) → b < 256 → tokenOf p (glyph (b / 16) ∷ glyph (b % 16) ∷ l) ≡ Byte b
-unfolding tokenOf afterHigh
+no-prefix : (b c : Bool) → c ≡ false → b && c ≡ false
+no-prefix true c e = e
+no-prefix false c e = refl
+
+pair-back : (p b : ℕ) (l : List ℕ) → b < 256 → tokenOf p (pairOf b ++ l) ≡ Byte b 2
+unfolding tokenOf digitsOf afterHigh isPrefixed
 pair-back p b l h =
     let q = div-add-mod' b 16 in
+    let high = glyph (b / 16) in
     let s = digit-back (b / 16) (omega (arith, q)) in
     let t = digit-back (b % 16) (mod-lt b (lit< tt)) in
-    rw (s .0, s .1, le-ltb 15 (b / 16) (omega (arith, q)), t .1, le-ltb 15 (b % 16) (omega (arith, mod-lt b (lit< {m = 0} {n = 16} tt)))) (ap Byte q)
+    rw (s .no-separator, s .no-comment, no-prefix (eqb high 48) (eqb (glyph (b % 16)) 120) (t .no-x), s .value, le-ltb 15 (b / 16) (omega (arith, q)), t .value, le-ltb 15 (b % 16) (omega (arith, mod-lt b (lit< {m = 0} {n = 16} tt))))
+    (ap (λ (x : ℕ). Byte x 2) q)
 
 pub nothing-read : (p room : ℕ) → readFrom p room [] ≡ record { bytes = []; end = whole }
-unfolding readFrom
+unfolding readPast
 nothing-read p room = refl
 
 -- a blank is passed over; a byte is the first of those that are read
 pub blank-read : (p room : ℕ) (s : List ℕ) → readFrom p room (32 ∷ s) ≡ readFrom (p + 1) room s
-unfolding readFrom tokenOf isBlank
-blank-read p room [] = refl
-blank-read p room (d ∷ t) = refl
+unfolding readPast tokenOf isSeparator isBlank
+blank-read p room s = refl
 
 pub pair-read : (p room b : ℕ) (s : List ℕ) → b < 256 → readFrom p (suc room) (pairOf b ++ s) ≡ withBytes (b ∷ []) (readFrom (p + 2) room s)
-unfolding readFrom
-pair-read p room b s h = rw (pair-back p b s h)
+unfolding readPast
+pair-read p room b s h =
+    let e : p + 1 + 1 ≡ p + 2 = omega arith in
+    rw (pair-back p b s h) (ap (λ (q : ℕ). withBytes (b ∷ []) (readPast 0 q room s)) e)
 
 pub hex-back : (p room : ℕ) (l : List ℕ) → AllBytes l → length l ≤ room → readFrom p room (hexOf l) ≡ record { bytes = l; end = whole }
 unfolding hexOf

@@ -1,11 +1,12 @@
-// Bytes written as hexadecimal text: two digits to a byte, upper or lower case, blanks between the
-// bytes.
+// Bytes written as hexadecimal text: two digits to a byte, upper or lower case, with or without 0x in front of a byte;
+// blanks, commas, colons and braces between the bytes; comments from # to the end of the line.
 ghost use mathlib.Core.Path.{_≡_};
-ghost use Prim.Native.Nat.{ℕ, _<_, _≤_};
+ghost use Prim.Native.Nat.{ℕ, _+_, _<_, _≤_};
 ghost use lib.ListN.{length, drop};
 ghost use Rattle.io.specs.Counts.{Counts};
 ghost use Rattle.io.specs.Digits.{glyph};
-ghost use Rattle.hexadecimal.specs.Hex.{digitOf, isBlank, tokenOf, readingOf, hexAnswerOf, writtenOver, pairOf, hexOf};
+ghost use Rattle.hexadecimal.specs.Hex.{digitOf, isBlank, isSeparator, lineLength, isPrefixed, isDigitAt, digitsOf, prefixedOf, tokenOf};
+ghost use Rattle.hexadecimal.specs.Hex.{readingOf, hexAnswerOf, writtenOver, pairOf, hexOf};
 ghost use Rattle.text_buffer.specs.Text.{Appends};
 use text_buffer::append;
 
@@ -18,11 +19,11 @@ pub enum HexAnswer {
     TooLong,
 }
 
-// What begins at a position of a text: a blank; a byte of two digits; neither, by the character at
-// a position; or a digit with nothing after it.
+// What begins at a position of a text: so many characters that are passed over; a byte, with its number of characters;
+// neither, by the character at a position; or a digit with nothing after it.
 enum Token {
-    Blank,
-    Byte(u8),
+    Skip(usize),
+    Byte(u8, usize),
     Wrong(usize),
     Single,
 }
@@ -55,15 +56,46 @@ pub fn digit(c: u8) -> u8
     }
 }
 
-fn token_at(text: &[u8], at: usize) -> Token
-    requires { ⌜ at < length (now text) ⌝ }
-    ensures { λ r. ⌜ r ≡ tokenOf at (drop at (now (text .entry))) ⌝ }
+fn is_separator(c: u8) -> bool
+    ensures { λ r. ⌜ r ≡ isSeparator c ⌝ }
 {
-    let c = text[at];
     if is_blank(c) {
-        return Token::Blank;
+        return true;
     }
-    let high = digit(c);
+    if c == b',' {
+        return true;
+    }
+    if c == b':' {
+        return true;
+    }
+    if c == b'{' {
+        return true;
+    }
+    c == b'}'
+}
+
+// The number of characters up to the end of the line.
+fn line_length(text: &[u8]) -> usize
+    ensures { λ r. ⌜ (r ≡ lineLength (now (text .entry))) × (r ≤ length (now (text .entry))) ⌝ }
+{
+    let mut n = 0;
+    while n < text.len() {
+        if text[n] == b'\n' {
+            return n;
+        }
+        n += 1;
+    }
+    n
+}
+
+fn digits_at(text: &[u8], at: usize) -> Token
+    requires { ⌜ at ≤ length (now text) ⌝ }
+    ensures { λ r. ⌜ r ≡ digitsOf at (drop at (now (text .entry))) ⌝ }
+{
+    if text.len() <= at {
+        return Token::Single;
+    }
+    let high = digit(text[at]);
     if 15 < high {
         return Token::Wrong(at);
     }
@@ -75,7 +107,64 @@ fn token_at(text: &[u8], at: usize) -> Token
     if 15 < low {
         return Token::Wrong(next);
     }
-    Token::Byte(high * 16 + low)
+    Token::Byte(high * 16 + low, 2)
+}
+
+fn is_prefixed(text: &[u8]) -> bool
+    ensures { λ r. ⌜ r ≡ isPrefixed (now (text .entry)) ⌝ }
+{
+    if text.len() < 2 {
+        return false;
+    }
+    if text[0] == b'0' {
+        return text[1] == b'x';
+    }
+    false
+}
+
+fn is_digit_at(text: &[u8], at: usize) -> bool
+    ensures { λ r. ⌜ r ≡ isDigitAt (now (text .entry)) at ⌝ }
+{
+    if text.len() <= at {
+        return false;
+    }
+    digit(text[at]) <= 15
+}
+
+// A byte with 0x in front.
+fn prefixed_at(text: &[u8], at: usize) -> Token
+    requires { ⌜ at + 2 ≤ length (now text) ⌝ }
+    ensures { λ r. ⌜ r ≡ prefixedOf at (drop at (now (text .entry))) ⌝ }
+{
+    match digits_at(text, at + 2) {
+        Token::Skip(length) => Token::Single,
+        Token::Wrong(place) => Token::Wrong(place),
+        Token::Single => Token::Single,
+        Token::Byte(byte, length) => {
+            let end = at + 4;
+            if is_digit_at(&text[at..], 4) {
+                return Token::Wrong(end);
+            }
+            Token::Byte(byte, 4)
+        }
+    }
+}
+
+fn token_at(text: &[u8], at: usize) -> Token
+    requires { ⌜ at < length (now text) ⌝ }
+    ensures { λ r. ⌜ r ≡ tokenOf at (drop at (now (text .entry))) ⌝ }
+{
+    let c = text[at];
+    if is_separator(c) {
+        return Token::Skip(1);
+    }
+    if c == b'#' {
+        return Token::Skip(line_length(&text[at..]));
+    }
+    if is_prefixed(&text[at..]) {
+        return prefixed_at(text, at);
+    }
+    digits_at(text, at)
 }
 
 // Puts the bytes that `text` spells at the start of `out`, up to the first fault if there is one.
@@ -88,16 +177,16 @@ pub fn decode(text: &[u8], out: &mut [u8]) -> HexAnswer
     let mut i = 0;
     while i < text.len() {
         match token_at(text, i) {
-            Token::Blank => i += 1,
+            Token::Skip(length) => i += length,
             Token::Wrong(at) => return HexAnswer::NotHex(at),
             Token::Single => return HexAnswer::Odd,
-            Token::Byte(byte) => {
+            Token::Byte(byte, length) => {
                 if out.len() <= n {
                     return HexAnswer::TooLong;
                 }
                 out[n] = byte;
                 n += 1;
-                i += 2;
+                i += length;
             }
         }
     }

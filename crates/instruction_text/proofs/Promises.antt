@@ -7,8 +7,9 @@ use lib.ListN.{length, getD}
 use Rattle.text_buffer.specs.Decimal.{decimal}
 use Rattle.encoding.specs.Ranges.{AllBytes}
 use Rattle.isa.specs.Decode.{operandBytes, operand}
+use Rattle.phrases.specs.Numbers.{signedText}
 use Rattle.instruction_text.specs.Names.{nameOf}
-use Rattle.instruction_text.specs.Text.{aligned, signedText, operandText, textAt, isInstruction, plainAt}
+use Rattle.instruction_text.specs.Text.{aligned, operandText, textAt, isInstruction, plainAt}
 use Rattle.instruction_text.proofs.Opcodes as opcodes
 use Rattle.instruction_text.proofs.Texting as texting
 -- `Instructed e k`: a supported instruction starts at k, inside the bytes and whole. `rowText at op count v`: the text
@@ -22,13 +23,7 @@ instructed = texting.instructed
 pub instruction-inside : (e : List ℕ) (k : ℕ) → isInstruction e k ≡ true → k < length e
 instruction-inside e k i = texting.instructed e k i .inside
 
--- ---- the parts of a text: a number with its sign, an operand or none, the row before the line feed
-pub signed-low : (v : ℕ) → v < 2 ^ 63 → decimal v ≡ signedText v
-signed-low = texting.signed-low
-
-pub signed-high : (v : ℕ) → 2 ^ 63 ≤ v → v < 2 ^ 64 → (45 ∷ []) ++ decimal (18446744073709551615 - v + 1) ≡ signedText v
-signed-high = texting.signed-high
-
+-- ---- the parts of a text: an operand or none, the row before the line feed
 pub operand-none : (count v : ℕ) → count ≡ 0 → [] ≡ operandText count v
 operand-none = texting.operand-none
 

@@ -19,8 +19,10 @@ use Rattle.isa.specs.Classes.{kind-unsupported}
 use Rattle.isa.specs.Decode.{kindAt, operandBytes, operand, next}
 use Rattle.isa.proofs.Promises.{operands-most}
 use Rattle.text_buffer.proofs.Promises.{decimal-some, decimal-most, decimal-least, decimal-length}
+use Rattle.phrases.specs.Numbers.{signedText}
+use Rattle.phrases.proofs.Promises.{signed-length}
 use Rattle.instruction_text.specs.Names.{nameOf}
-use Rattle.instruction_text.specs.Text.{signedText, aligned, operandText, textOf, textAt, namedAt, isInstruction, plainAt, writtenAnswer, writtenLeft}
+use Rattle.instruction_text.specs.Text.{aligned, operandText, textOf, textAt, namedAt, isInstruction, plainAt, writtenAnswer, writtenLeft}
 use Rattle.instruction_text.specs.declared.writing.TextAnswer.{TextAnswer}
 use Rattle.instruction_text.specs.declared.writing.TextAnswer.the-variants.{Text as TextAnswer·text, NoInstruction, NoRoom}
 use Rattle.instruction_text.proofs.Opcodes.{name-length}
@@ -38,17 +40,6 @@ aligned-two v g h = aligned-by v 1 (omega (arith, decimal-least v 1 g, decimal-m
 
 pub aligned-more : (v : ℕ) → 100 ≤ v → decimal v ≡ aligned (decimal v)
 aligned-more v g = aligned-by v 0 (omega (arith, decimal-least v 2 g))
-
--- ---- a signed number
-pub signed-low : (v : ℕ) → v < 2 ^ 63 → decimal v ≡ signedText v
-unfolding signedText
-signed-low v h = rw (lt-ltb v (2 ^ 63) h)
-
-pub signed-high : (v : ℕ) → 2 ^ 63 ≤ v → v < 2 ^ 64 → (45 ∷ []) ++ decimal (18446744073709551615 - v + 1) ≡ signedText v
-unfolding signedText
-signed-high v g h =
-    let e : 18446744073709551615 - v + 1 ≡ 2 ^ 64 - v = omega arith in
-    rw (le-ltb v (2 ^ 63) g) (ap (λ (x : ℕ). 45 ∷ decimal x) e)
 
 -- ---- an operand
 pub operand-none : (count v : ℕ) → count ≡ 0 → [] ≡ operandText count v
@@ -147,12 +138,6 @@ aligned-length : (v : ℕ) → v < 2 ^ 64 → length (aligned (decimal v)) ≤ 2
 unfolding aligned
 aligned-length v h =
     omega (arith, decimal-length v h, length-append (replicate (3 - length (decimal v)) 32) (decimal v), length-replicate {A = ℕ} (3 - length (decimal v)) 32)
-
-signed-length : (v : ℕ) → v < 2 ^ 64 → length (signedText v) ≤ 21
-signed-length v h =
-    cases v (2 ^ 63)
-    (λ l. omega (arith, ap length (signed-low v l), decimal-length v h))
-    (λ g. omega (arith, ap length (signed-high v g h), decimal-length (18446744073709551615 - v + 1) (omega arith)))
 
 operand-length : (count v : ℕ) → v < 2 ^ 64 → length (operandText count v) ≤ 22
 operand-length count v h =

@@ -3,8 +3,9 @@ use mathlib.Core.Path.{_≡_, refl}
 use mathlib.Core.List.{[], _∷_}
 use Rattle.text_buffer.specs.Decimal.{decimalBy, decimal}
 use Rattle.text_buffer.specs.Text.{bytesOf}
+use Rattle.phrases.specs.Numbers.{signedText}
 use Rattle.instruction_text.specs.Names.{names, nameOf}
-use Rattle.instruction_text.specs.Text.{aligned, signedText, operandText, textOf}
+use Rattle.instruction_text.specs.Text.{aligned, operandText, textOf}
 
 -- as GDB prints them; a const64 is signed
 texts :

@@ -1,5 +1,5 @@
 -- The text of an instruction, as GDB's `maint agent` prints it: `  0  const8 5`.
-use Prim.Native.Nat.{ℕ, _-_, _^_}
+use Prim.Native.Nat.{ℕ, _-_}
 use mathlib.Core.Bool.{Bool, cond, _&&_}
 use mathlib.Core.List.{List, [], _∷_, _++_}
 use lib.Dec.{ltb, leb, eqb}
@@ -9,16 +9,13 @@ use Rattle.isa.specs.Classes.{kind-unsupported}
 use Rattle.isa.specs.Decode.{kindAt, operandBytes, operand, next}
 use Rattle.instruction_text.specs.Names.{nameOf}
 use Rattle.text_buffer.specs.Decimal.{decimal}
+use Rattle.phrases.specs.Numbers.{signedText}
 use Rattle.instruction_text.specs.declared.writing.TextAnswer.{TextAnswer}
 use Rattle.instruction_text.specs.declared.writing.TextAnswer.the-variants.{Text, NoInstruction, NoRoom}
 
 -- in three columns, or as many as it needs
 unfoldable pub aligned : List ℕ → List ℕ
 aligned l = replicate (3 - length l) 32 ++ l
-
--- a word of 64 bits as a signed number, as GDB prints it; every number below 2^63 is printed as it is
-unfoldable pub signedText : ℕ → List ℕ
-signedText v = cond (ltb v (2 ^ 63)) (decimal v) (45 ∷ decimal (2 ^ 64 - v))
 
 -- an instruction without operand bytes has no operand
 unfoldable pub operandText : ℕ → ℕ → List ℕ

@@ -5,8 +5,9 @@ ghost use Prim.Native.Nat.{ℕ, _<_, _≤_};
 ghost use lib.ListN.{length};
 ghost use Rattle.text_buffer.specs.Text.{Appends};
 ghost use Rattle.text_buffer.specs.Decimal.{decimal};
-ghost use Rattle.instruction_text.specs.Text.{signedText, aligned, operandText, namedAt, textAt, isInstruction, plainAt, writtenAnswer, writtenLeft};
+ghost use Rattle.instruction_text.specs.Text.{aligned, operandText, namedAt, textAt, isInstruction, plainAt, writtenAnswer, writtenLeft};
 use crate::names::append_name;
+use phrases::numbers::append_signed;
 use text_buffer::append;
 use text_buffer::append_number;
 
@@ -30,16 +31,6 @@ fn append_offset(out: &mut [u8], at: usize, offset: u64) -> usize
         return append_number(out, behind, offset);
     }
     append_number(out, at, offset)
-}
-
-fn append_signed(out: &mut [u8], at: usize, value: u64) -> usize
-    ensures { λ r. ⌜ Appends (now (out .entry)) at (signedText value) (now (out .exit)) r ⌝ }
-{
-    if value < 9223372036854775808 {
-        return append_number(out, at, value);
-    }
-    let behind = append(out, at, b"-");
-    append_number(out, behind, u64::MAX - value + 1)
 }
 
 fn append_operand(out: &mut [u8], at: usize, count: usize, value: u64) -> usize

@@ -10,7 +10,10 @@ use Rattle.reader.specs.Read.{Read, memoryRead, variableRead, refusedRead, read
 use Rattle.reader.proofs.Promises as page
 use Rattle.logic.specs.Tests.{member}
 use Rattle.refusals.specs.Numbers.{buffer-bad, trailer-broken, record-broken, no-such-frame, no-such-record}
-use Rattle.lilivrez_frames.specs.FrameValues.{IsRead, IsCounted, IsFound, readNumber, countNumber, locateNumber}
+use Rattle.reader.specs.NextRecord.{nextRecord}
+use Rattle.reader.specs.declared.RecordStep.{RecordStep}
+use Rattle.reader.specs.declared.RecordStep.the-variants.{Memory, Variable, Refused}
+use Rattle.lilivrez_frames.specs.FrameValues.{IsRead, IsCounted, IsFound, IsStep, readNumber, countNumber, locateNumber, stepNumber}
 
 or-right : (a b : Bool) → T b → T (a || b)
 or-right true b h = tt
@@ -96,3 +99,26 @@ module _ (l : List ℕ) (place : ℕ) where
 
   pub walk-0 : locateNumber (walked l place) ≡ 0 → IsFound (walked l place)
   walk-0 = found-0 (walked l place) (λ r q. page.walked-number (λ (r : ℕ). member r ofLocate) l tt tt tt place q)
+
+-- ---- a step over records
+module _ (l : List ℕ) (end place : ℕ) where
+  abbrev ofStep : List ℕ
+  ofStep = buffer-bad ∷ record-broken ∷ no-such-record ∷ []
+
+  step-in : (x : RecordStep) → nextRecord l end place ≡ x → T (member (stepNumber x) (0 ∷ ofStep))
+  unfolding stepNumber
+  step-in (Memory a n p q) e = tt
+  step-in (Variable i x q) e = tt
+  step-in (Refused r) e = or-right (eqb (r .number) 0) (member (r .number) ofStep) (page.next-number (λ (r : ℕ). member r ofStep) l tt tt tt end place e)
+
+  pub step-number : T (member (stepNumber (nextRecord l end place)) (0 ∷ ofStep))
+  step-number = step-in (nextRecord l end place) refl
+
+  step-zero : (x : RecordStep) → nextRecord l end place ≡ x → stepNumber x ≡ 0 → IsStep x
+  unfolding stepNumber
+  step-zero (Memory a n p q) e z = tt
+  step-zero (Variable i x q) e z = tt
+  step-zero (Refused r) e z = let f : r .number ≡ 0 = z in rw f at (page.next-number (λ (r : ℕ). member r ofStep) l tt tt tt end place e)
+
+  pub step-0 : stepNumber (nextRecord l end place) ≡ 0 → IsStep (nextRecord l end place)
+  step-0 = step-zero (nextRecord l end place) refl

@@ -2,7 +2,8 @@
 -- whatever; the rest follows from them.
 use mathlib.Core.List.{List, [], _∷_}
 use mathlib.Core.Path.{_≡_, sym}
-use Prim.Native.Nat.{ℕ, _+_, _≤_}
+use Prim.Native.Nat.{ℕ, _+_, _≤_, _<_}
+use native.Mathlib.Omega.{arith}
 use lib.ListN.{length}
 use lib.Dec.{T}
 use Rattle.logic.specs.Tests.{member}
@@ -12,7 +13,9 @@ use Rattle.frames.specs.Trailer.{trailerSize}
 use Rattle.reader.specs.Located.{frame, located, walked}
 use Rattle.reader.specs.Read.{memoryRead, reading, counting}
 use Rattle.reader.proofs.Promises as reader
-use Rattle.lilivrez_frames.specs.FrameValues.{IsRead, IsCounted, IsFound, readNumber, countNumber, locateNumber}
+use Rattle.reader.specs.NextRecord.{nextRecord}
+use Rattle.reader.specs.declared.RecordStep.the-variants.{Memory, Variable}
+use Rattle.lilivrez_frames.specs.FrameValues.{IsRead, IsCounted, IsFound, IsStep, readNumber, countNumber, locateNumber, stepNumber}
 use Rattle.lilivrez_frames.proofs.Numbers as numbers
 
 -- ---- record number i of a frame
@@ -60,3 +63,19 @@ module _ (l : List ℕ) (place : ℕ) where
   -- the frame found ends at the place given, so that a loop over the frames ends
   pub walk-back : {t : Tag} {s n : ℕ} → walked l place ≡ frame t s n → s + n + trailerSize ≡ place
   walk-back = reader.walked-back l place
+
+-- ---- a step over records
+module _ (l : List ℕ) (end place : ℕ) where
+  pub step-number : T (member (stepNumber (nextRecord l end place)) (0 ∷ buffer-bad ∷ record-broken ∷ no-such-record ∷ []))
+  step-number = numbers.step-number l end place
+
+  pub step-0 : stepNumber (nextRecord l end place) ≡ 0 → IsStep (nextRecord l end place)
+  step-0 = numbers.step-0 l end place
+
+  -- the next place lies ahead and not behind the end, so that a loop over the records ends; and a memory record's bytes
+  -- end there
+  pub step-memory : {a n p q : ℕ} → nextRecord l end place ≡ Memory a n p q → (place < q) × (q ≤ end) × (p + n ≤ length l)
+  step-memory e = let w = reader.memory-step l end place e in (w .0, w .2, omega (arith, w))
+
+  pub step-variable : {i x q : ℕ} → nextRecord l end place ≡ Variable i x q → (place < q) × (q ≤ end)
+  step-variable e = let w = reader.variable-step l end place e in (w .0, w .1)

@@ -1,6 +1,7 @@
 // The verifier as a static library, for C and Rust: include/lilivrez_verifier.h says how it is called.
 ghost use mathlib.Core.Path.{_≡_};
 ghost use Rattle.verdict.specs.Verdict.{verdict};
+ghost use Rattle.version.specs.Version.{version-number};
 ghost use Rattle.lilivrez_verifier.specs.VerdictNumbers.{verdictNumber, verdictValues};
 use verdict::Verification;
 
@@ -22,4 +23,12 @@ pub extern "C" fn lilivrez_verify(expression: &[u8], out: &mut [u64; 4]) -> u32
             0
         }
     }
+}
+
+// The version of this archive.
+#[no_mangle]
+pub extern "C" fn lilivrez_verifier_version() -> u32
+    ensures { λ r. ⌜ r ≡ version-number ⌝ }
+{
+    version::NUMBER
 }

@@ -43,7 +43,7 @@ begins-long w l r e =
 pub record Trying (hs : List String) (l : List ℕ) : Type 0 where
   pub rest : isHeading l ≡ beginsOne hs l
 
-pub trying-start : (l : List ℕ) → Trying ("Scope:" ∷ "Reg mask:" ∷ "accepted: " ∷ "refused " ∷ "bytes " ∷ []) l
+pub trying-start : (l : List ℕ) → Trying ("Scope:" ∷ "Reg mask:" ∷ "accepted: " ∷ "refused " ∷ "note: " ∷ "bytes " ∷ []) l
 unfolding isHeading headings
 trying-start l = record { rest = refl }
 

@@ -26,7 +26,7 @@ use Rattle.line_words.specs.declared.numbers.Number.the-variants.{Value}
 use Rattle.line_words.proofs.Promises.{truth, all, stops, both, all-append, first-word, last-blanks, decimal-digits, decimal-back}
 use Rattle.text_buffer.specs.Decimal.{decimal}
 use Rattle.listing.specs.Numbers.{negated, signedNumber}
-use Rattle.instruction_text.specs.Text.{aligned, signedText, operandText, textOf, textAt, isInstruction}
+use Rattle.instruction_text.specs.Text.{aligned, operandText, textOf, textAt, isInstruction}
 use Rattle.listing.specs.Line.{operandsOf, byWord, lineEnded, operandNumber, operandBy, fromOperand, byOpcode, nameBy, fromName, byOffset, lineBy, readLine, lineBytes}
 use Rattle.listing.specs.Meant.{headings, isHeading, isNot, before, beforeComment, meant}
 use Rattle.listing.specs.Listing.{listingFrom, listing, allInstructions, bytes, afterBytes, thenLines, readLines, joinedLines, onto, linesOf, listingText, readText}
@@ -34,7 +34,9 @@ use Rattle.listing.specs.declared.reading.ListingLine.{ListingLine}
 use Rattle.listing.specs.declared.reading.ListingLine.the-variants.{Instruction}
 use Rattle.listing.proofs.Numbering.{digit-range, negated-value, signed-minus, signed-plain}
 use Rattle.listing.proofs.Plain.{isPlain, GoodName, good-name}
-use Rattle.instruction_text.proofs.Promises.{signed-low, signed-high, operand-none, operand-some, Instructed, instructed, rowText, row-parts, text-parts}
+use Rattle.phrases.specs.Numbers.{signedText}
+use Rattle.phrases.proofs.Promises.{signed-low, signed-high}
+use Rattle.instruction_text.proofs.Promises.{operand-none, operand-some, Instructed, instructed, rowText, row-parts, text-parts}
 
 -- ---- digits are in a word
 digit-in-word : (c : ℕ) → T (isDigit 10 c) → T (isInWord c)
@@ -239,6 +241,7 @@ no-heading c l h =
       ne-eqb c 82 (λ z. omega (arith, z, h)),
       ne-eqb c 97 (λ z. omega (arith, z, h)),
       ne-eqb c 114 (λ z. omega (arith, z, h)),
+      ne-eqb c 110 (λ z. omega (arith, z, h)),
       ne-eqb c 98 (λ z. omega (arith, z, h)),
     )
 

@@ -7,3 +7,4 @@ mod Lining
 mod Numbering
 mod Plain
 mod Outcomes
+mod Parting

@@ -4,4 +4,5 @@ pub mod Line
 pub mod Meant
 pub mod Listing
 pub mod Whole
+pub mod Parts
 mod Examples

@@ -13,7 +13,7 @@ use Rattle.listing.specs.declared.reading.ListingLine.the-variants.{Noth
 
 -- how the lines without an instruction begin: two of GDB's, and those that `verify` prints
 unfoldable pub headings : List String
-headings = "Scope:" ∷ "Reg mask:" ∷ "accepted: " ∷ "refused " ∷ "bytes " ∷ []
+headings = "Scope:" ∷ "Reg mask:" ∷ "accepted: " ∷ "refused " ∷ "note: " ∷ "bytes " ∷ []
 
 -- the text l begins with w
 abbrev pub begins : List ℕ → List ℕ → Bool

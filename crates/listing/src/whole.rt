@@ -34,7 +34,7 @@ fn before(text: &[u8], c: u8) -> usize
     n
 }
 
-fn begins_with(line: &[u8], word: &[u8]) -> bool
+pub(crate) fn begins_with(line: &[u8], word: &[u8]) -> bool
     ensures { λ r. ⌜ r ≡ begins (now (word .entry)) (now (line .entry)) ⌝ }
 {
     let n = word.len();
@@ -44,7 +44,7 @@ fn begins_with(line: &[u8], word: &[u8]) -> bool
     is_same(&line[0..n], word)
 }
 
-// GDB prints two lines before the instructions, and `verify` an answer before them and the bytes behind.
+// GDB prints two lines before the instructions, and `verify` an answer before them, and notes and the bytes behind.
 fn is_heading(line: &[u8]) -> bool
     ensures { λ r. ⌜ r ≡ isHeading (now (line .entry)) ⌝ }
 {
@@ -58,6 +58,9 @@ fn is_heading(line: &[u8]) -> bool
         return true;
     }
     if begins_with(line, b"refused ") {
+        return true;
+    }
+    if begins_with(line, b"note: ") {
         return true;
     }
     begins_with(line, b"bytes ")
@@ -85,7 +88,7 @@ fn take_line(line: &[u8], out: &mut [u8], at: usize) -> LineRead
 }
 
 // Where the line that starts at `start` ends, behind its line feed.
-fn line_end(text: &[u8], start: usize) -> usize
+pub(crate) fn line_end(text: &[u8], start: usize) -> usize
     requires { ⌜ start < length (now text) ⌝ }
     ensures { λ r. ⌜ IsLine (now (text .entry)) start r ⌝ }
 {

@@ -87,9 +87,9 @@ module _ (m : Given) where
   in-buffer (completed a n w rs) h k f = (omega arith, h)
   in-buffer (stopped r rs) h j f = tt
 
-  after-fits : (x : Verdict) → InBuffer (afterVerdict m x)
+  after-fits : (x : Verdict) → InBuffer (onward (moves m (m .allowance)) (afterVerdict m x))
   after-fits (accepted n g l) =
-      by-test InBuffer (eqb (inputRefusal m) 0) _ _
+      by-test (λ o. InBuffer (onward (moves m (m .allowance)) o)) (eqb (inputRefusal m) 0) _ _
       (λ t. let w = lengths-fine (eqb-true _ _ t) in
       in-buffer (stepped m) (w .0) (w .1) (moves-room m (m .allowance) (begin m)))
       (λ _. tt)

@@ -3,6 +3,7 @@ pub mod Promises
 pub mod Cells
 pub mod Following
 pub mod Steps
+pub mod Standing
 pub mod Ending
 pub mod Made
 pub mod Recorded

@@ -23,7 +23,7 @@ use Rattle.machine.specs.Given.{Given, Fixed, fixedOf, State, begin, fre
 use Rattle.machine.specs.Words.{zeroDivisor}
 use Rattle.machine.specs.Recording.{Made, made, refuses, fitting, rangeMade, zeroMade, toZeroMade}
 use Rattle.machine.specs.Meaning.{Done, leaves, faults, recording, binaryDone, refDone, regDone, endDone, meaning, done}
-use Rattle.machine.specs.Machine.{moved, moves}
+use Rattle.machine.specs.Machine.{moved, onward, moves}
 use Rattle.machine.specs.Run.{inputTests, inputRefusal, afterVerdict, ended}
 use Rattle.machine.specs.Recorded.{FromTarget, recordsOf}
 use Rattle.machine.proofs.Cells.{by-test}
@@ -173,10 +173,10 @@ spans-fine m h = let w = none-holds (inputTests (m .registers) (m .target) (m .b
 
 module _ (m : Given) (P : Record → Type 0) (of-memory : OfMemory (m .target) P) (Fact : State → Type 0)
     (keeps : (n g l : ℕ) → Accepted (m .expression) n g l → Keeps m P Fact) where
-  after-all : (x : Verdict) → Means (m .expression) x → All P (recordsOf (afterVerdict m x))
+  after-all : (x : Verdict) → Means (m .expression) x → All P (recordsOf (onward (moves m (m .allowance)) (afterVerdict m x)))
   unfolding recordsOf
   after-all (accepted n g l) a =
-      by-test (λ o. All P (recordsOf o)) (eqb (inputRefusal m) 0) _ _
+      by-test (λ o. All P (recordsOf (onward (moves m (m .allowance)) o))) (eqb (inputRefusal m) 0) _ _
       (λ t. moves-all m (spans-fine m (eqb-true _ _ t)) P of-memory Fact (keeps n g l a) (m .allowance) (begin m) (keeps n g l a .first) tt) (λ _. tt)
   after-all (refused r) _ = tt
 

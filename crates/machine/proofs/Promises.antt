@@ -21,12 +21,14 @@ use Rattle.verdict.specs.Verdict.{accepted, refused, verdict}
 use Rattle.verdict.specs.Acceptance.{Accepted, Ready}
 use Rattle.machine.specs.Given.{Given, Fixed, State, begin}
 use Rattle.machine.specs.Meaning.{leaves, faults, endDone, done, stackAfter, variablesAfter, offsetAfter}
-use Rattle.machine.specs.Machine.{Answer, completed, stopped, moves}
-use Rattle.machine.specs.Run.{inputRefusal, stepped, ended, stepsOf, numberOf}
+use Rattle.machine.specs.Machine.{Answer, Ended, completed, stopped, Standing, stands, over, onward, moves}
+use Rattle.machine.specs.Run.{inputRefusal, begun, stepped, ended, stepsOf, numberOf}
+use Rattle.machine.specs.Standing.{standingFrom, standing}
 use Rattle.machine.specs.Recorded.{FromTarget, AllFromTarget, recordsOf, Typed}
 use Rattle.machine.proofs.Cells as cells
 use Rattle.machine.proofs.Following as following
 use Rattle.machine.proofs.Steps as steps
+use Rattle.machine.proofs.Standing as standings
 use Rattle.machine.proofs.Made as made
 use Rattle.machine.proofs.Ending as ending
 use Rattle.machine.proofs.Recorded as recorded
@@ -69,6 +71,29 @@ module _ (g : Given) where
 
     pub inputs-fine : inputRefusal g ≡ 0 → ended g ≡ stepped g
     inputs-fine = steps.inputs-fine g p
+
+  -- the same of where the machine stands before its first move
+  pub begun-refused : {r : Refusal} → verdict (g .expression) ≡ refused r → begun g ≡ over (stopped r [])
+  begun-refused = steps.begun-refused g
+
+  module _ {n h l : ℕ} (p : verdict (g .expression) ≡ accepted n h l) where
+    pub begun-inputs : inputRefusal g ≢ 0 → begun g ≡ over (stopped (refusal (inputRefusal g) 0) [])
+    begun-inputs = steps.begun-inputs g p
+
+    pub begun-fine : inputRefusal g ≡ 0 → begun g ≡ stands (begin g)
+    begun-fine = steps.begun-fine g p
+
+-- ---- where a run stands: after n moves, n at most the allowance, it goes on from there, or has ended so
+module _ (g : Given) where
+  pub ended-standing : (n : ℕ) → n ≤ g .allowance → ended g ≡ onward (moves g (g .allowance - n)) (standing g n)
+  ended-standing = standings.ended-standing g
+
+  -- the same from s on: n and k moves are k moves from where n lead; and what has ended stays so
+  pub moves-standing : (s : Standing) {left : ℕ} (n k : ℕ) → left ≡ n + k → onward (moves g left) s ≡ onward (moves g k) (standingFrom g s n)
+  moves-standing = standings.moves-standing g
+
+  pub over-stays : (s : Standing) (n k : ℕ) {o : Ended} → standingFrom g s n ≡ over o → n ≤ k → standingFrom g s k ≡ over o
+  over-stays = standings.over-stays g
 
 -- ---- R2 from any state on: `left` is the allowance less the steps done
 module _ (g : Given) where

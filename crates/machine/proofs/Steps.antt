@@ -2,7 +2,7 @@
 use mathlib.Core.Bool.{Bool, true, false}
 use mathlib.Core.List.{List, []}
 use mathlib.Core.Logic.{_≢_}
-use mathlib.Core.Path.{_≡_, refl}
+use mathlib.Core.Path.{_≡_, refl, ap}
 use Prim.Native.Nat.{ℕ, zero, suc, _+_, _-_, _≤_, zero-le}
 use native.Mathlib.Omega.{arith}
 use lib.ListN.{length}
@@ -19,8 +19,8 @@ use Rattle.verdict.specs.Acceptance.{Accepted}
 use Rattle.verdict.proofs.Promises.{accepted-means, refused-number, refused-plain, longest-length}
 use Rattle.machine.specs.Given.{Given, fixedOf, State, begin, freeOf}
 use Rattle.machine.specs.Meaning.{Done, leaves, faults, done}
-use Rattle.machine.specs.Machine.{Ended, completed, stopped, answer, moved, onward, moves}
-use Rattle.machine.specs.Run.{inputTests, inputRefusal, afterVerdict, stepped, ended, stepsOf, numberOf}
+use Rattle.machine.specs.Machine.{Ended, completed, stopped, answer, moved, stands, over, movedBy, onward, moves}
+use Rattle.machine.specs.Run.{inputTests, inputRefusal, afterVerdict, begun, stepped, ended, stepsOf, numberOf}
 use Rattle.machine.proofs.Cells.{by-test}
 use Rattle.machine.proofs.Following.{OnWalk, walk-begins, steps-short, walk-moves, walk-faults}
 
@@ -33,15 +33,16 @@ NumberedEnd (stopped r rs) = (1 ≤ r .number) × (r .number ≤ 21)
 module _ (m : Given) (go : State → Ended) (st : State) (P : Ended → Type 0) where
   onward-to : (cells : List ℕ) (rs : List Record) (t : Bool) → (t ≡ true → P (completed (answer (st .stack)) (st .steps + 1) (st .variables) (st .records)))
       → (t ≡ false → P (go (moved m st cells rs)))
-      → P (elim t [ true ↦ completed (answer (st .stack)) (st .steps + 1) (st .variables) (st .records) | false ↦ go (moved m st cells rs) ])
+      → P (onward go (elim t [ true ↦ over (completed (answer (st .stack)) (st .steps + 1) (st .variables) (st .records)) | false ↦ stands (moved m st cells rs) ]))
   onward-to cells rs true f g = f refl
   onward-to cells rs false f g = g refl
 
   -- what holds at an end, after any other instruction and at a refusal holds after a move
-  pub onward-by : (d : Done) → ((cells : List ℕ) (rs : List Record) → d ≡ leaves cells rs → kindAt (m .expression) (st .offset) ≡ kind-end → P (completed (answer (st .stack)) (st .steps + 1) (st .variables) (st .records)))
+  pub onward-by : (d : Done)
+      → ((cells : List ℕ) (rs : List Record) → d ≡ leaves cells rs → kindAt (m .expression) (st .offset) ≡ kind-end → P (completed (answer (st .stack)) (st .steps + 1) (st .variables) (st .records)))
       → ((cells : List ℕ) (rs : List Record) → d ≡ leaves cells rs → kindAt (m .expression) (st .offset) ≢ kind-end → P (go (moved m st cells rs)))
       → ((n : ℕ) → d ≡ faults n → P (stopped (refusalAfter n (st .offset) (st .steps)) (st .records)))
-      → P (onward m go st d)
+      → P (onward go (movedBy m st d))
   onward-by (leaves cells rs) f g h =
       onward-to cells rs (eqb (kindAt (m .expression) (st .offset)) kind-end) (λ t. f cells rs refl (eqb-true _ _ t)) (λ t. g cells rs refl (eqb-false _ _ t))
   onward-by (faults n) f g h = h n refl
@@ -88,28 +89,37 @@ module _ (m : Given) where
 
 -- ---- whole runs
 module _ (m : Given) where
-  -- a refused expression and refused inputs end the run before it steps; else it steps from the beginning
+  -- a refused expression and refused inputs end the run before it steps; else it stands in its beginning
+  pub begun-refused : {r : Refusal} → verdict (m .expression) ≡ refused r → begun m ≡ over (stopped r [])
+  begun-refused p = rw p
+
   pub refused-early : {r : Refusal} → verdict (m .expression) ≡ refused r → ended m ≡ stopped r []
   unfolding ended
-  refused-early p = rw p
+  refused-early p = ap (onward (moves m (m .allowance))) (begun-refused p)
 
   module _ {n g l : ℕ} (p : verdict (m .expression) ≡ accepted n g l) where
+    pub begun-inputs : inputRefusal m ≢ 0 → begun m ≡ over (stopped (refusal (inputRefusal m) 0) [])
+    begun-inputs h = rw (p, ne-eqb (inputRefusal m) 0 h)
+
+    pub begun-fine : inputRefusal m ≡ 0 → begun m ≡ stands (begin m)
+    begun-fine h = rw (p, h)
+
     pub inputs-refused : inputRefusal m ≢ 0 → ended m ≡ stopped (refusal (inputRefusal m) 0) []
     unfolding ended
-    inputs-refused h = rw (p, ne-eqb (inputRefusal m) 0 h)
+    inputs-refused h = ap (onward (moves m (m .allowance))) (begun-inputs h)
 
     pub inputs-fine : inputRefusal m ≡ 0 → ended m ≡ stepped m
     unfolding ended
-    inputs-fine h = rw (p, h)
+    inputs-fine h = ap (onward (moves m (m .allowance))) (begun-fine h)
 
   refusal-low : inputRefusal m ≤ 15
   unfolding inputRefusal
   refusal-low = tried-most 15 (inputTests (m .registers) (m .target) (m .buffer) (m .used)) tt
 
-  after-allowed : (x : Verdict) → verdict (m .expression) ≡ x → stepsOf (afterVerdict m x) ≤ m .allowance
+  after-allowed : (x : Verdict) → verdict (m .expression) ≡ x → stepsOf (onward (moves m (m .allowance)) (afterVerdict m x)) ≤ m .allowance
   unfolding stepsOf
   after-allowed (accepted n g l) p =
-      by-test (λ o. stepsOf o ≤ m .allowance) (eqb (inputRefusal m) 0) _ _
+      by-test (λ o. stepsOf (onward (moves m (m .allowance)) o) ≤ m .allowance) (eqb (inputRefusal m) 0) _ _
       (λ _. omega (arith, moves-allowed m (m .allowance) (begin m))) (λ _. zero-le)
   after-allowed (refused r) p = rw (refused-plain (m .expression) p) zero-le
 
@@ -123,14 +133,14 @@ module _ (m : Given) where
     pub steps-longest : stepsOf (ended m) ≤ l
     unfolding ended stepsOf
     steps-longest =
-        rw p (by-test (λ o. stepsOf o ≤ l) (eqb (inputRefusal m) 0) _ _
+        rw p (by-test (λ o. stepsOf (onward (moves m (m .allowance)) o) ≤ l) (eqb (inputRefusal m) 0) _ _
         (λ _. let a = accepted-means (m .expression) p in moves-longest m a (m .allowance) (begin m) (walk-begins a)) (λ _. zero-le))
 
     -- an allowance of the longest walk is never spent
     pub allowance-enough : l ≤ m .allowance → numberOf (ended m) ≢ 16
     unfolding ended numberOf
     allowance-enough h =
-        rw p (by-test (λ o. numberOf o ≢ 16) (eqb (inputRefusal m) 0) _ _
+        rw p (by-test (λ o. numberOf (onward (moves m (m .allowance)) o) ≢ 16) (eqb (inputRefusal m) 0) _ _
         (λ _. let a = accepted-means (m .expression) p in moves-enough m a (m .allowance) (begin m) (walk-begins a) (omega arith))
         (λ _. omega (arith, refusal-low)))
 
@@ -145,9 +155,9 @@ module _ (m : Given) where
   pub bytes-enough : 1024 ≤ m .allowance → numberOf (ended m) ≢ 16
   bytes-enough = enough-by (verdict (m .expression)) refl
 
-  after-numbered : (x : Verdict) → verdict (m .expression) ≡ x → NumberedEnd (afterVerdict m x)
+  after-numbered : (x : Verdict) → verdict (m .expression) ≡ x → NumberedEnd (onward (moves m (m .allowance)) (afterVerdict m x))
   after-numbered (accepted n g l) p =
-      by-test NumberedEnd (eqb (inputRefusal m) 0) (stepped m) (stopped (refusal (inputRefusal m) 0) [])
+      by-test (λ o. NumberedEnd (onward (moves m (m .allowance)) o)) (eqb (inputRefusal m) 0) _ _
       (λ _. let a = accepted-means (m .expression) p in moves-numbered m a (m .allowance) (begin m) (walk-begins a))
       (λ t. (omega (arith, eqb-false (inputRefusal m) 0 t), omega (arith, refusal-low)))
   after-numbered (refused r) p = let x = refused-number (m .expression) p in (x .0, omega (arith, x))

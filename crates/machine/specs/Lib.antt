@@ -6,5 +6,6 @@ pub mod Recording
 pub mod Meaning
 pub mod Machine
 pub mod Run
+pub mod Standing
 pub mod Recorded
 pub mod Examples

@@ -40,17 +40,31 @@ moved g st cells rs = record {
   steps = st .steps + 1;
 }
 
+-- Where the machine is after a move: it stands in a state, or it has ended.
+pub data Standing : Type 0 where
+  stands : State → Standing
+  over : Ended → Standing
+
 -- after the instruction: end completes, any other moves on; "if one of 16 to 21 is met, the machine stops with that
 -- refusal at that offset"
-abbrev pub onward : Given → (State → Ended) → State → Done → Ended
-onward g go st (leaves cells rs) =
+abbrev pub movedBy : Given → State → Done → Standing
+movedBy g st (leaves cells rs) =
     elim (eqb (kindAt (g .expression) (st .offset)) kind-end) [
-      | true ↦ completed (answer (st .stack)) (st .steps + 1) (st .variables) (st .records)
-      | false ↦ go (moved g st cells rs)
+      | true ↦ over (completed (answer (st .stack)) (st .steps + 1) (st .variables) (st .records))
+      | false ↦ stands (moved g st cells rs)
     ]
-onward g go st (faults n) = stopped (refusalAfter n (st .offset) (st .steps)) (st .records)
+movedBy g st (faults n) = over (stopped (refusalAfter n (st .offset) (st .steps)) (st .records))
+
+-- one move, where the allowance is not spent
+abbrev pub move : Given → State → Standing
+move g st = movedBy g st (done (fixedOf g) (st .offset) (st .stack) (st .variables) (freeOf g st))
+
+-- what has not ended goes on
+abbrev pub onward : (State → Ended) → Standing → Ended
+onward go (stands st) = go st
+onward go (over o) = o
 
 -- The moves, where `left` is the allowance less the steps done: at 0 "the steps done equal the allowance, refusal 16".
 unfoldable pub moves : Given → ℕ → State → Ended
 moves g zero st = stopped (refusalAfter allowance-spent (st .offset) (st .steps)) (st .records)
-moves g (suc left) st = onward g (moves g left) st (done (fixedOf g) (st .offset) (st .stack) (st .variables) (freeOf g st))
+moves g (suc left) st = onward (moves g left) (move g st)

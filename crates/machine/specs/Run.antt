@@ -16,7 +16,7 @@ use Rattle.frames.specs.Frame.{encodeFrame}
 use Rattle.frames.specs.Buffer.{unfit}
 use Rattle.verdict.specs.Verdict.{Verdict, accepted, refused, verdict}
 use Rattle.machine.specs.Given.{Given, begin}
-use Rattle.machine.specs.Machine.{Ended, completed, stopped, moves}
+use Rattle.machine.specs.Machine.{Ended, completed, stopped, Standing, stands, over, onward, moves}
 
 -- 12 and 13 of the spans; 14: "over 256 registers"; 15 of the buffer
 abbrev pub inputTests : List ℕ → Target → List ℕ → ℕ → List (Bool × ℕ)
@@ -26,21 +26,24 @@ inputTests registers t buffer used =
 unfoldable pub inputRefusal : Given → ℕ
 inputRefusal g = tried (inputTests (g .registers) (g .target) (g .buffer) (g .used))
 
--- the machine's moves from the beginning on
+abbrev pub afterInputs : Given → ℕ → Standing
+afterInputs g r = cond (eqb r 0) (stands (begin g)) (over (stopped (refusal r 0) []))
+
+abbrev pub afterVerdict : Given → Verdict → Standing
+afterVerdict g (accepted n h l) = afterInputs g (inputRefusal g)
+afterVerdict g (refused r) = over (stopped r [])
+
+-- Before the first move: "A refusal tried before stepping (here 1 to 15) ends it, with 0 steps and no records." "The
+-- runner verifies first, then checks 12 to 15, then steps."
+abbrev pub begun : Given → Standing
+begun g = afterVerdict g (verdict (g .expression))
+
+unfoldable pub ended : Given → Ended
+ended g = onward (moves g (g .allowance)) (begun g)
+
+-- the moves from the beginning on, where no refusal is met before
 abbrev pub stepped : Given → Ended
 stepped g = moves g (g .allowance) (begin g)
-
-abbrev pub afterInputs : Given → ℕ → Ended
-afterInputs g r = cond (eqb r 0) (stepped g) (stopped (refusal r 0) [])
-
-abbrev pub afterVerdict : Given → Verdict → Ended
-afterVerdict g (accepted n h l) = afterInputs g (inputRefusal g)
-afterVerdict g (refused r) = stopped r []
-
--- "A refusal tried before stepping (here 1 to 15) ends it, with 0 steps and no records." "The runner verifies first,
--- then checks 12 to 15, then steps."
-unfoldable pub ended : Given → Ended
-ended g = afterVerdict g (verdict (g .expression))
 
 -- "An entry without an allowance uses 1,024."
 abbrev pub defaultAllowance : ℕ

@@ -8,13 +8,13 @@ use mathlib.Core.Path.{_≡_, refl, sym, ap, _∙_}
 use lib.Dec.{eqb, lit<}
 use lib.ListN.{length, drop, getD, length-append, length-drop}
 use lib.Seq.{drop-drop, getD-drop}
-use borrow.Author.Tests.{eq-eqb, ne-eqb}
+use borrow.Author.Tests.{eq-eqb, ne-eqb, lt-ltb, le-ltb}
 use Rattle.io.specs.Digits.{digits, glyph, Fewest}
 use Rattle.text_buffer.specs.Text.{bytesOf}
 use Rattle.logic.proofs.Promises.{cases}
 use Rattle.text_buffer.specs.Decimal.{decimal}
-use Rattle.text_buffer.proofs.Promises.{decimal-length}
-use Rattle.phrases.specs.Numbers.{countText, hexText, significant, valueText}
+use Rattle.text_buffer.proofs.Promises.{decimal-most, decimal-length}
+use Rattle.phrases.specs.Numbers.{countText, hexText, significant, signedText, otherReading, valueText}
 
 -- ---- one, or more
 pub count-one : (n : ℕ) (w : List ℕ) → n ≡ 1 → decimal n ++ bytesOf " " ++ w ≡ countText n w
@@ -84,6 +84,25 @@ module _ {l : List ℕ} {n : ℕ} (s : Skipping l n) where
         same = ap significant (sym (drop-drop 1 n l)) ∙ zero-first (drop n l) (front l n ∙ e) long ∙ s .same;
       }
 
+-- ---- a signed number; the signed reading where it differs
+pub signed-low : (v : ℕ) → v < 2 ^ 63 → decimal v ≡ signedText v
+unfolding signedText
+signed-low v h = rw (lt-ltb v (2 ^ 63) h)
+
+pub signed-high : (v : ℕ) → 2 ^ 63 ≤ v → v < 2 ^ 64 → (45 ∷ []) ++ decimal (18446744073709551615 - v + 1) ≡ signedText v
+unfolding signedText
+signed-high v g h =
+    let e : 18446744073709551615 - v + 1 ≡ 2 ^ 64 - v = omega arith in
+    rw (le-ltb v (2 ^ 63) g) (ap (λ (x : ℕ). 45 ∷ decimal x) e)
+
+pub reading-same : (v : ℕ) → v < 2 ^ 63 → [] ≡ otherReading v
+unfolding otherReading
+reading-same v h = rw (lt-ltb v (2 ^ 63) h)
+
+pub reading-other : (v : ℕ) → 2 ^ 63 ≤ v → signedText v ++ bytesOf ", " ≡ otherReading v
+unfolding otherReading
+reading-other v h = rw (le-ltb v (2 ^ 63) h)
+
 -- ---- how long they are
 either : (b : Bool) (x y : List ℕ) (n : ℕ) → length x ≤ n → length y ≤ n → length (cond b x y) ≤ n
 either true x y n p q = p
@@ -95,28 +114,45 @@ significant-length [] = omega arith
 significant-length (c ∷ []) = omega arith
 significant-length (c ∷ d ∷ l) = either (eqb c 48) (significant (d ∷ l)) (c ∷ d ∷ l) (length (c ∷ d ∷ l)) (omega (arith, significant-length (d ∷ l))) (omega arith)
 
-pub count-length : (n : ℕ) (w : List ℕ) → n < 2 ^ 64 → length (countText n w) ≤ 22 + length w
+pub count-most : (n : ℕ) (w : List ℕ) (k : ℕ) → n < 10 ^ suc k → length (countText n w) ≤ 3 + k + length w
 unfolding countText
-count-length n w h =
+count-most n w k h =
     let d = decimal n in
-    let m = decimal-length n h in
+    let m = decimal-most n k h in
     let a = length-append (d ++ bytesOf " ") w in
     let b = length-append d (bytesOf " ") in
-    either (eqb n 1) (d ++ bytesOf " " ++ w) (d ++ bytesOf " " ++ w ++ bytesOf "s") (22 + length w)
+    either (eqb n 1) (d ++ bytesOf " " ++ w) (d ++ bytesOf " " ++ w ++ bytesOf "s") (3 + k + length w)
     (omega (arith, m, a, b))
     (omega (arith, m, a, b, length-append (d ++ bytesOf " " ++ w) (bytesOf "s")))
 
-pub value-length : (v : ℕ) → v < 2 ^ 64 → length (valueText v) ≤ 41
+pub signed-length : (v : ℕ) → v < 2 ^ 64 → length (signedText v) ≤ 21
+signed-length v h =
+    cases v (2 ^ 63)
+    (λ l. omega (arith, ap length (signed-low v l), decimal-length v h))
+    (λ g. omega (arith, ap length (signed-high v g h), decimal-length (18446744073709551615 - v + 1) (omega arith)))
+
+reading-length : (v : ℕ) → v < 2 ^ 64 → length (otherReading v) ≤ 23
+reading-length v h =
+    cases v (2 ^ 63)
+    (λ l. omega (arith, ap length (reading-same v l)))
+    (λ g. omega (arith, ap length (reading-other v g), length-append (signedText v) (bytesOf ", "), signed-length v h))
+
+pub value-length : (v : ℕ) → v < 2 ^ 64 → length (valueText v) ≤ 64
 unfolding hexText valueText
 value-length v h =
-    let d = decimal v ++ bytesOf " (0x" in
+    let d = decimal v ++ bytesOf " (" in
+    let r = d ++ otherReading v in
+    let x = r ++ bytesOf "0x" in
     let s = significant (hexText v) in
     omega (
       arith,
       decimal-length v h,
-      length-append (decimal v) (bytesOf " (0x"),
+      length-append (decimal v) (bytesOf " ("),
+      reading-length v h,
+      length-append d (otherReading v),
+      length-append r (bytesOf "0x"),
       significant-length (hexText v),
       digits-length 16 16 v,
-      length-append d s,
-      length-append (d ++ s) (bytesOf ")"),
+      length-append x s,
+      length-append (x ++ s) (bytesOf ")"),
     )

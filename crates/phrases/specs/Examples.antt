@@ -3,7 +3,7 @@ use mathlib.Core.List.{[], _∷_, map}
 use mathlib.Core.Path.{_≡_, refl}
 use Rattle.text_buffer.specs.Text.{bytesOf}
 use Rattle.text_buffer.specs.Decimal.{decimalBy, decimal}
-use Rattle.phrases.specs.Numbers.{countText, hexText, significant, valueText}
+use Rattle.phrases.specs.Numbers.{countText, hexText, significant, otherReading, valueText}
 use Rattle.phrases.specs.Refused.{refusedAt, refusalOf}
 
 one : countText 1 (bytesOf "byte") ≡ bytesOf "1 byte"
@@ -19,11 +19,11 @@ unfolding hexText
 an-address = refl
 
 a-value : valueText 42 ≡ bytesOf "42 (0x2a)"
-unfolding decimalBy decimal hexText significant valueText
+unfolding decimalBy decimal hexText significant otherReading valueText
 a-value = refl
 
 zero-value : valueText 0 ≡ bytesOf "0 (0x0)"
-unfolding decimalBy decimal hexText significant valueText
+unfolding decimalBy decimal hexText significant otherReading valueText
 zero-value = refl
 
 a-refusal : refusedAt 19 12 ≡ bytesOf "refused 19 at offset 12"

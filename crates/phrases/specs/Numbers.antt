@@ -1,8 +1,8 @@
 -- Counts, addresses and values as text.
-use Prim.Native.Nat.{ℕ}
+use Prim.Native.Nat.{ℕ, _-_, _^_}
 use mathlib.Core.Bool.{cond}
 use mathlib.Core.List.{List, [], _∷_, _++_}
-use lib.Dec.{eqb}
+use lib.Dec.{eqb, ltb}
 use Rattle.io.specs.Digits.{digits}
 use Rattle.text_buffer.specs.Text.{bytesOf}
 use Rattle.text_buffer.specs.Decimal.{decimal}
@@ -21,6 +21,14 @@ significant [] = []
 significant (c ∷ []) = c ∷ []
 significant (c ∷ d ∷ l) = cond (eqb c 48) (significant (d ∷ l)) (c ∷ d ∷ l)
 
--- `DECIMAL (0xHEX)`
+-- a word of 64 bits as a signed number, as GDB prints it; every number below 2^63 is printed as it is
+unfoldable pub signedText : ℕ → List ℕ
+signedText v = cond (ltb v (2 ^ 63)) (decimal v) (45 ∷ decimal (2 ^ 64 - v))
+
+-- the signed reading, where it differs
+unfoldable pub otherReading : ℕ → List ℕ
+otherReading v = cond (ltb v (2 ^ 63)) [] (signedText v ++ bytesOf ", ")
+
+-- `DECIMAL (0xHEX)`; from 2^63 on `DECIMAL (-DECIMAL, 0xHEX)`
 unfoldable pub valueText : ℕ → List ℕ
-valueText v = decimal v ++ bytesOf " (0x" ++ significant (hexText v) ++ bytesOf ")"
+valueText v = decimal v ++ bytesOf " (" ++ otherReading v ++ bytesOf "0x" ++ significant (hexText v) ++ bytesOf ")"

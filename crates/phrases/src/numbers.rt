@@ -4,7 +4,7 @@ ghost use Prim.Native.Nat.{_≤_};
 ghost use lib.ListN.{length, drop};
 ghost use Rattle.io.specs.Counts.{Counts};
 ghost use Rattle.text_buffer.specs.Text.{Appends};
-ghost use Rattle.phrases.specs.Numbers.{countText, hexText, significant, valueText};
+ghost use Rattle.phrases.specs.Numbers.{countText, hexText, significant, signedText, otherReading, valueText};
 use text_buffer::append;
 use text_buffer::append_number;
 
@@ -57,15 +57,40 @@ fn append_significant(out: &mut [u8], at: usize, figures: &[u8]) -> usize
     append(out, at, &figures[n..])
 }
 
-// Appends a value in decimal and in hexadecimal: `42 (0x2a)`.
+// Appends a number as a signed one: with a minus from 2^63 on.
+pub fn append_signed(out: &mut [u8], at: usize, value: u64) -> usize
+    ensures count { λ r. ⌜ Counts r (now (out .exit)) ⌝ }
+    ensures text { λ r. ⌜ Appends (now (out .entry)) at (signedText value) (now (out .exit)) r ⌝ }
+{
+    if value < 9223372036854775808 {
+        return append_number(out, at, value);
+    }
+    let behind = append(out, at, b"-");
+    append_number(out, behind, u64::MAX - value + 1)
+}
+
+// The signed reading, where it differs: `-1, `.
+fn append_other_reading(out: &mut [u8], at: usize, value: u64) -> usize
+    ensures { λ r. ⌜ Appends (now (out .entry)) at (otherReading value) (now (out .exit)) r ⌝ }
+{
+    if value < 9223372036854775808 {
+        return append(out, at, b"");
+    }
+    let a = append_signed(out, at, value);
+    append(out, a, b", ")
+}
+
+// Appends a value in decimal and in hexadecimal: `42 (0x2a)`; from 2^63 on with the signed reading between them.
 pub fn append_value(out: &mut [u8], at: usize, value: u64) -> usize
     ensures count { λ r. ⌜ Counts r (now (out .exit)) ⌝ }
     ensures text { λ r. ⌜ Appends (now (out .entry)) at (valueText value) (now (out .exit)) r ⌝ }
 {
     let a = append_number(out, at, value);
-    let b = append(out, a, b" (0x");
+    let b = append(out, a, b" (");
+    let c = append_other_reading(out, b, value);
+    let d = append(out, c, b"0x");
     let mut figures = [0u8; 16];
     let k = io::hex(value, 16, &mut figures);
-    let c = append_significant(out, b, &figures[..k]);
-    append(out, c, b")")
+    let e = append_significant(out, d, &figures[..k]);
+    append(out, e, b")")
 }

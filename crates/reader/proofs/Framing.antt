@@ -89,6 +89,9 @@ module _ (l : List ℕ) (used number : ℕ) where
     pub framed-located : located l used number ≡ frame t s (length (encodeAll rs))
     framed-located = exact .place
 
+    pub framed-division : divide (take (length (encodeAll rs)) (drop s l)) ≡ records rs
+    framed-division = exact .division
+
     pub framed-inside : (s + length (encodeAll rs) + trailerSize ≤ length l) × (length l ≤ buffer-most)
     framed-inside = located-inside l used number (sym framed-located)
 

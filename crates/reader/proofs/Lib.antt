@@ -4,5 +4,7 @@ pub mod Framing
 pub mod Inside
 pub mod Numbers
 pub mod Splitting
+pub mod Stepping
+pub mod RecordWalk
 pub mod ReadBack
 pub mod Promises

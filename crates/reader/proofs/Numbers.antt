@@ -14,6 +14,10 @@ use Rattle.frames.specs.Division.{Division, records, brokenAt, divide}
 use Rattle.reader.specs.Located.{Located, frame, refused, located, walked}
 use Rattle.reader.specs.Framed.{FrameRead, frameRead, refusedFrame, framedBy, framedAt, framed}
 use Rattle.reader.specs.Read.{Read, memoryRead, variableRead, refusedRead, told, recordRead, recordIn, reading, Counted, counted, refusedCount, countIn, counting}
+use Rattle.reader.specs.NextRecord.{stepOver, nextRecord}
+use Rattle.reader.specs.declared.RecordStep.{RecordStep}
+use Rattle.reader.specs.declared.RecordStep.the-variants.{Memory, Variable, Refused}
+use Rattle.reader.proofs.Stepping.{by-place}
 use Rattle.reader.proofs.Locating.{located-all, walked-all}
 
 module _ (p : ℕ → Bool) (l : List ℕ) (h15 : T (p buffer-bad)) (h22 : T (p trailer-broken)) (h24 : T (p no-such-frame)) where
@@ -93,3 +97,22 @@ module _ (p : ℕ → Bool) (l : List ℕ) (h15 : T (p buffer-bad)) (h22 : T (p 
 
       pub read-number : (used number i : ℕ) {r : Refusal} → reading l used number i ≡ refusedRead r → T (p (r .number))
       read-number used number i q = rw q at (read-in used number i)
+
+-- ---- a step over records
+module _ (p : ℕ → Bool) (l : List ℕ) (h15 : T (p buffer-bad)) (h23 : T (p record-broken)) (h25 : T (p no-such-record)) where
+  abbrev OfStep : RecordStep → Type 0
+  OfStep (Memory a n b q) = Unit {0}
+  OfStep (Variable i x q) = Unit {0}
+  OfStep (Refused r) = T (p (r .number))
+
+  over-in : (place : ℕ) (x : Record) → OfStep (stepOver place x)
+  over-in place (memory a bytes) = tt
+  over-in place (variable i x) = tt
+
+  step-in : (end place : ℕ) → OfStep (nextRecord l end place)
+  unfolding nextRecord
+  step-in end place =
+      by-place l end place (λ e. rw e h15) (λ u h e. rw e h25) (λ u h e. rw e h23) (λ x u h f e. rw e (over-in place x))
+
+  pub next-number : (end place : ℕ) {r : Refusal} → nextRecord l end place ≡ Refused r → T (p (r .number))
+  next-number end place q = rw q at (step-in end place)

@@ -1,10 +1,11 @@
 -- What users of `reader` may cite. F1 and F2 are the contracts of src/lib.rt: for every buffer, used length, frame and
--- record number, `read` answers `reading`, `count_records` answers `counting`, `locate` answers `located`, and one step
--- of a walk, `walk`, answers `walked`. Then what is known of the answers, and F3: what was written is read back.
+-- record number, `read` answers `reading`, `count_records` answers `counting`, `locate` answers `located`, one step of
+-- a walk, `walk`, answers `walked`, and one over records, `next_record`, answers `nextRecord`. Then what is known of
+-- the answers, and F3: what was written is read back.
 use mathlib.Core.Bool.{Bool}
 use mathlib.Core.List.{List, _∷_, _++_}
 use mathlib.Core.Path.{_≡_}
-use Prim.Native.Nat.{ℕ, suc, _+_, _≤_}
+use Prim.Native.Nat.{ℕ, suc, _+_, _≤_, _<_}
 use lib.ListN.{length, take, drop}
 use lib.Dec.{T}
 use Rattle.sizes.specs.Sizes.{buffer-most}
@@ -20,9 +21,13 @@ use Rattle.frames.specs.declared.Tag.{Tag}
 use Rattle.reader.specs.Located.{frame, refused, located, walked}
 use Rattle.reader.specs.Framed.{frameRead, refusedFrame, framed}
 use Rattle.reader.specs.Read.{memoryRead, refusedRead, told, reading, counted, refusedCount, counting}
+use Rattle.reader.specs.NextRecord.{recordThere, recordAt, nextRecord, RecordsFrom}
+use Rattle.reader.specs.declared.RecordStep.the-variants.{Memory, Variable, Refused}
 use Rattle.reader.proofs.Locating as locating
 use Rattle.reader.proofs.Framing as framing
 use Rattle.reader.proofs.Inside as inside
+use Rattle.reader.proofs.Stepping as stepping
+use Rattle.reader.proofs.RecordWalk as record-walk
 use Rattle.reader.proofs.Numbers as numbers
 use Rattle.reader.proofs.ReadBack as back
 
@@ -51,6 +56,46 @@ read-inside = inside.read-inside
 pub walked-back : (l : List ℕ) (place : ℕ) {t : Tag} {s n : ℕ} → walked l place ≡ frame t s n → s + n + trailerSize ≡ place
 walked-back = inside.walked-back
 
+-- ---- the record walker
+module _ (l : List ℕ) (end place : ℕ) where
+  -- a step goes forward and stays inside, and a memory record's bytes are the last of the record
+  pub memory-step : {a n p q : ℕ} → nextRecord l end place ≡ Memory a n p q → (place < q) × (p + n ≡ q) × (q ≤ end) × (end ≤ length l) × (length l ≤ buffer-most)
+  memory-step = stepping.memory-step l end place
+
+  pub variable-step : {i x q : ℕ} → nextRecord l end place ≡ Variable i x q → (place < q) × (q ≤ end) × (end ≤ length l) × (length l ≤ buffer-most)
+  variable-step = stepping.variable-step l end place
+
+  -- the bytes at the place that is told are those of the record
+  pub there-bytes : AllBytes l → {a : ℕ} {bytes : List ℕ} → recordAt l end place ≡ recordThere (memory a bytes) → take (length bytes) (drop (place + 11) l) ≡ bytes
+  there-bytes = stepping.there-bytes l end place
+
+-- from every place there is one walk, and it ends
+module _ (l : List ℕ) (end : ℕ) where
+  pub walk-ends : (place : ℕ) → (rs : List Record) × (r : Refusal) × RecordsFrom l end place rs r
+  walk-ends = record-walk.walk-ends l end
+
+  pub one-walk : {place : ℕ} {rs ts : List Record} {r q : Refusal} → RecordsFrom l end place rs r → RecordsFrom l end place ts q → (rs ≡ ts) × (r ≡ q)
+  one-walk = record-walk.one-walk l end
+
+module _ (l : List ℕ) (used number : ℕ) where
+  -- a frame that is read is walked: from its start the steps give its records, and then 25 at their end
+  pub framed-walked : {t : Tag} {s : ℕ} {rs : List Record} → framed l used number ≡ frameRead t s rs
+      → RecordsFrom l (s + length (encodeAll rs)) s rs (refusal no-such-record (s + length (encodeAll rs)))
+  framed-walked = record-walk.framed-walked l used number
+
+  -- one that is refused for a broken record is walked up to there
+  pub broken-walked : {k : ℕ} → framed l used number ≡ refusedFrame (refusal record-broken k)
+      → (t : Tag) × (s : ℕ) × (n : ℕ) × (rs : List Record) × (located l used number ≡ frame t s n) × RecordsFrom l (s + n) s rs (refusal record-broken k)
+  broken-walked = record-walk.broken-walked l used number
+
+  -- and what the walk over a frame's records comes to is what reading the frame comes to
+  module _ (t : Tag) (s n : ℕ) (e : located l used number ≡ frame t s n) where
+    pub walked-whole : {rs : List Record} {k : ℕ} → RecordsFrom l (s + n) s rs (refusal no-such-record k) → (framed l used number ≡ frameRead t s rs) × (k ≡ s + n)
+    walked-whole = record-walk.walked-whole l used number t s n e
+
+    pub walked-cut : {rs : List Record} {k : ℕ} → RecordsFrom l (s + n) s rs (refusal record-broken k) → framed l used number ≡ refusedFrame (refusal record-broken k)
+    walked-cut = record-walk.walked-cut l used number t s n e
+
 -- ---- the numbers of refusals: what holds of 15, 22 and 24 holds of each of a search's and of a walk's; with 23, of a
 -- frame's and of a count's; with 25, of a reading's
 module _ (p : ℕ → Bool) (l : List ℕ) (h15 : T (p buffer-bad)) (h22 : T (p trailer-broken)) (h24 : T (p no-such-frame)) where
@@ -69,6 +114,11 @@ module _ (p : ℕ → Bool) (l : List ℕ) (h15 : T (p buffer-bad)) (h22 : T (p 
 
     pub read-number : T (p no-such-record) → (used number i : ℕ) {r : Refusal} → reading l used number i ≡ refusedRead r → T (p (r .number))
     read-number = numbers.read-number p l h15 h22 h24 h23
+
+-- of a step over records: 15, 23 and 25
+pub next-number : (p : ℕ → Bool) (l : List ℕ) → T (p buffer-bad) → T (p record-broken) → T (p no-such-record)
+    → (end place : ℕ) {r : Refusal} → nextRecord l end place ≡ Refused r → T (p (r .number))
+next-number = numbers.next-number
 
 -- ---- F3: a frame of the records rs and with the tag t, written behind the u used bytes of the buffer l, and counted
 -- as used
@@ -94,6 +144,9 @@ module _ (l : List ℕ) (u : ℕ) (t : Tag) (rs : List Record) (small : length l
     pub newest-record : (before : List Record) (r : Record) (behind : List Record) → rs ≡ before ++ (r ∷ behind)
         → reading after used 0 (length before) ≡ told t (u + length (encodeAll before)) r
     newest-record = back.newest-record l u t rs small fits low well
+
+    pub newest-walked : RecordsFrom after (u + length (encodeAll rs)) u rs (refusal no-such-record (u + length (encodeAll rs)))
+    newest-walked = framed-walked after used 0 newest-framed
 
     pub newest-past : (i : ℕ) → length rs ≤ i → reading after used 0 i ≡ refusedRead (refusal no-such-record u)
     newest-past = back.newest-past l u t rs small fits low well

@@ -30,7 +30,7 @@ use Rattle.reader.proofs.Locating.{nothing-left, too-short, frame-there
 
 -- ---- buffers that agree on their first u bytes
 -- a part of the front is a part of the whole
-part-front : (l : List ℕ) (u s n : ℕ) → u ≤ length l → s + n ≤ u → take n (drop s (take u l)) ≡ take n (drop s l)
+pub part-front : (l : List ℕ) (u s n : ℕ) → u ≤ length l → s + n ≤ u → take n (drop s (take u l)) ≡ take n (drop s l)
 part-front l u s n h k =
     let p = take u l in
     let long : length p ≡ u = length-take-le u l h in
@@ -74,7 +74,7 @@ told-at t s o (q ∷ before) r behind =
     ∙ ap (λ k. told t k r) (rw (length-append (encode q) (encodeAll before), length-encode q, add-assoc))
 
 -- the bytes of a memory record stand behind its header
-header-skipped : (a : ℕ) (bytes rest : List ℕ) → take (length bytes) (drop 11 (encode (memory a bytes) ++ rest)) ≡ bytes
+pub header-skipped : (a : ℕ) (bytes rest : List ℕ) → take (length bytes) (drop 11 (encode (memory a bytes) ++ rest)) ≡ bytes
 unfolding encode littleBytes
 header-skipped a bytes rest = take-append-seam bytes rest
 

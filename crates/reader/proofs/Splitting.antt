@@ -181,7 +181,7 @@ told-variable : (t : Tag) (o : ℕ) (r : Record) {k x : ℕ} → Variable k x �
 told-variable t o (memory a bytes) e = absurd (let z : _≡_ {A = ℕ} 0 1 = cc in omega arith)
 told-variable t o (variable k x) e = cc
 
-memory-long : (r : Record) {a n : ℕ} → Memory a n ≡ fieldsOf r → 11 ≤ size r
+pub memory-long : (r : Record) {a n : ℕ} → Memory a n ≡ fieldsOf r → 11 ≤ size r
 memory-long (memory a bytes) e = omega arith
 memory-long (variable k x) e = omega arith
 

@@ -3,5 +3,6 @@
 pub mod Located
 pub mod Framed
 pub mod Read
+pub mod NextRecord
 pub mod Answers
 pub mod joining

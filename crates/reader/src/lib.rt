@@ -7,6 +7,7 @@ ghost use Rattle.frames.specs.Division.{divide as division};
 ghost use Rattle.reader.specs.Located.{frameBefore, located, walked};
 ghost use Rattle.reader.specs.Framed.{framedBy};
 ghost use Rattle.reader.specs.Read.{reading, counting, recordIn};
+ghost use Rattle.reader.specs.NextRecord.{nextRecord};
 ghost use Rattle.reader.specs.Answers.{locatedOf, readOf, countedOf};
 ghost use Rattle.reader.specs.joining.Splitting.{splitOf};
 use frames::Ending;
@@ -31,6 +32,13 @@ pub enum RecordAnswer {
 // Tag, start, length of the records, their number.
 pub enum CountAnswer {
     Records(Tag, usize, usize, usize),
+    Refused(Refusal),
+}
+
+// Memory: address, length, place of the bytes in the buffer, next place. Variable: number, value, next place.
+pub enum RecordStep {
+    Memory(u64, usize, usize, usize),
+    Variable(u64, u64, usize),
     Refused(Refusal),
 }
 
@@ -182,5 +190,30 @@ pub fn count_records(buffer: &[u8], used: usize, number: u64) -> CountAnswer
                 Split::Whole(records, found) => CountAnswer::Records(tag, start, length, records),
             }
         }
+    }
+}
+
+// ---- the record walker
+// The record at `place` of the frame whose records end at `end`, and the next place.
+pub fn next_record(buffer: &[u8], end: usize, place: usize) -> RecordStep
+    ensures { λ r. ⌜ r ≡ nextRecord (now (buffer .entry)) end place ⌝ }
+{
+    if frames::is_unfit(buffer, end) {
+        return RecordStep::Refused(refusal_at(refusals::BUFFER_BAD, 0));
+    }
+    if end <= place {
+        return RecordStep::Refused(refusal_at(refusals::NO_SUCH_RECORD, place));
+    }
+    let size = frames::record_size(&buffer[place..end]);
+    if size == 0 {
+        return RecordStep::Refused(refusal_at(refusals::RECORD_BROKEN, place));
+    }
+    let next = place + size;
+    match frames::read_record(&buffer[place..end]) {
+        RecordFields::Memory(address, length) => {
+            let bytes = place + frames::MEMORY_HEADER;
+            RecordStep::Memory(address, length, bytes, next)
+        }
+        RecordFields::Variable(number, value) => RecordStep::Variable(number, value, next),
     }
 }

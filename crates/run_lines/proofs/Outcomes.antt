@@ -13,19 +13,18 @@ use Rattle.instruction_text.specs.Text.{isInstruction, plainAt}
 use Rattle.refusals.specs.declared.Refusal.{Refusal}
 use Rattle.refusals.specs.Numbers.{expression-size, span-past-end, buffer-bad}
 use Rattle.machine.specs.Machine.{Answer}
-use Rattle.run_lines.specs.Outcome.{completedBy, isNarrow, completedText, isOfInstruction, instructionLine}
+use Rattle.run_lines.specs.Outcome.{completedBy, fitsLine, isNarrow, completedText, isOfInstruction, instructionLine, changeBy, changeText}
 
 -- ---- one line or two
-module _ (a : Answer) (n : ℕ) where
-  -- as `is_narrow` finds it: r bytes of the line were written, into a buffer that has room for more than 101
-  pub narrow-by : (b : List ℕ) (r : ℕ) → Text b r (completedBy (bytesOf ", beneath ") a n) → 101 < length b → leb r 101 ≡ isNarrow a n
-  unfolding isNarrow
-  narrow-by b r t room =
-      let l = completedBy (bytesOf ", beneath ") a n in
-      cases 101 (length l)
-      (λ g. lt-leb r 101 (cases r (length b) (λ h. omega (arith, g, t .all h)) (λ h. omega (arith, h, room))) ∙ sym (lt-leb (length l) 101 g))
-      (λ h. le-leb r 101 (omega (arith, t .most, h)) ∙ sym (le-leb (length l) 101 h))
+-- as it is found by writing the line l: r bytes of it were written, into a buffer that has room for more than 101
+pub narrow-by : (l b : List ℕ) (r : ℕ) → Text b r l → 101 < length b → leb r 101 ≡ fitsLine l
+unfolding fitsLine
+narrow-by l b r t room =
+    cases 101 (length l)
+    (λ g. lt-leb r 101 (cases r (length b) (λ h. omega (arith, g, t .all h)) (λ h. omega (arith, h, room))) ∙ sym (lt-leb (length l) 101 g))
+    (λ h. le-leb r 101 (omega (arith, t .most, h)) ∙ sym (le-leb (length l) 101 h))
 
+module _ (a : Answer) (n : ℕ) where
   pub completed-one : isNarrow a n ≡ true → completedBy (bytesOf ", beneath ") a n ≡ completedText a n
   unfolding completedText
   completed-one q = rw q
@@ -33,6 +32,15 @@ module _ (a : Answer) (n : ℕ) where
   pub completed-two : isNarrow a n ≡ false → completedBy (bytesOf ",\n  beneath ") a n ≡ completedText a n
   unfolding completedText
   completed-two q = rw q
+
+module _ (j before after : ℕ) where
+  pub change-one : fitsLine (changeBy (bytesOf " -> ") j before after) ≡ true → changeBy (bytesOf " -> ") j before after ≡ changeText j before after
+  unfolding changeText
+  change-one q = rw q
+
+  pub change-two : fitsLine (changeBy (bytesOf " -> ") j before after) ≡ false → changeBy (bytesOf "\n    -> ") j before after ≡ changeText j before after
+  unfolding changeText
+  change-two q = rw q
 
 -- ---- the instruction of a refused run
 module _ (r : ℕ) where

@@ -28,8 +28,11 @@ unfoldable pub completedBy : List ℕ → Answer → ℕ → List ℕ
 completedBy s a n = bytesOf "completed" ++ stepsText n ++ cellsText a s ++ bytesOf "\n"
 
 -- a line has at most 100 columns, and a line feed
+unfoldable pub fitsLine : List ℕ → Bool
+fitsLine l = leb (length l) 101
+
 unfoldable pub isNarrow : Answer → ℕ → Bool
-isNarrow a n = leb (length (completedBy (bytesOf ", beneath ") a n)) 101
+isNarrow a n = fitsLine (completedBy (bytesOf ", beneath ") a n)
 
 -- in one line where it is narrow; else the cell beneath stands in a line of its own
 unfoldable pub completedText : Answer → ℕ → List ℕ
@@ -56,9 +59,14 @@ unfoldable pub outcomeText : List ℕ → Returned → List ℕ
 outcomeText e (completedWith a n u) = completedText a n
 outcomeText e (refusedWith r) = refusedText e r
 
--- `  variable 3: 0 -> 42`
+-- a variable's value before a run and after it; s stands between them
+unfoldable pub changeBy : List ℕ → ℕ → ℕ → ℕ → List ℕ
+changeBy s j before after = bytesOf "  variable " ++ decimal j ++ bytesOf ": " ++ valueText before ++ s ++ valueText after ++ bytesOf "\n"
+
+-- `  variable 3: 0 (0x0) -> 42 (0x2a)`; where that is too wide, the value after stands in a line of its own
 unfoldable pub changeText : ℕ → ℕ → ℕ → List ℕ
-changeText j before after = bytesOf "  variable " ++ decimal j ++ bytesOf ": " ++ decimal before ++ bytesOf " -> " ++ decimal after ++ bytesOf "\n"
+changeText j before after =
+    cond (fitsLine (changeBy (bytesOf " -> ") j before after)) (changeBy (bytesOf " -> ") j before after) (changeBy (bytesOf "\n    -> ") j before after)
 
 -- `buffer: 21 of 65536 bytes used`
 unfoldable pub bufferText : ℕ → ℕ → List ℕ

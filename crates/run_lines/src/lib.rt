@@ -2,9 +2,12 @@
 // `text_buffer` do: `at` is where the text so far ends, and the answer is where it ends then.
 ghost use mathlib.Core.Path.{_≡_};
 ghost use Rattle.io.specs.Counts.{Counts};
-ghost use Rattle.text_buffer.specs.Text.{Appends};
+ghost use Rattle.text_buffer.specs.Text.{Appends, bytesOf};
 ghost use Rattle.runner.specs.Returned.{answerOf, returnedBy};
-ghost use Rattle.run_lines.specs.Outcome.{stepsText, cellsText, completedBy, isNarrow, completedText, isOfInstruction, instructionLine, refusedText, outcomeText, changeText, bufferText};
+ghost use Rattle.run_lines.specs.Outcome.{stepsText, cellsText, completedBy, fitsLine, isNarrow, completedText, isOfInstruction, instructionLine, refusedText, outcomeText, changeBy, changeText, bufferText};
+
+pub mod notes;
+
 use instruction_text::writing::append_plain;
 use instruction_text::writing::is_instruction;
 use phrases::numbers::append_count;
@@ -125,18 +128,45 @@ pub fn append_outcome(out: &mut [u8], at: usize, code: &[u8], outcome: Outcome) 
     }
 }
 
-// Appends a variable that a run has changed: `  variable 3: 0 -> 42`.
-pub fn append_change(out: &mut [u8], at: usize, number: usize, before: u64, after: u64) -> usize
+// The value before, and that after behind what separates them.
+fn append_change_by(
+    out: &mut [u8],
+    at: usize,
+    between: &[u8],
+    number: usize,
+    before: u64,
+    after: u64,
+) -> usize
     ensures count { λ r. ⌜ Counts r (now (out .exit)) ⌝ }
-    ensures text { λ r. ⌜ Appends (now (out .entry)) at (changeText number before after) (now (out .exit)) r ⌝ }
+    ensures text { λ r. ⌜ Appends (now (out .entry)) at (changeBy (now (between .entry)) number before after) (now (out .exit)) r ⌝ }
 {
     let a = append(out, at, b"  variable ");
     let b = append_number(out, a, number as u64);
     let c = append(out, b, b": ");
-    let d = append_number(out, c, before);
-    let e = append(out, d, b" -> ");
-    let f = append_number(out, e, after);
+    let d = append_value(out, c, before);
+    let e = append(out, d, between);
+    let f = append_value(out, e, after);
     append(out, f, b"\n")
+}
+
+// Whether a change fits one line of 100 columns, found by writing it.
+fn is_change_narrow(number: usize, before: u64, after: u64) -> bool
+    ensures { λ r. ⌜ r ≡ fitsLine (changeBy (bytesOf " -> ") number before after) ⌝ }
+{
+    let mut line = [0u8; 160];
+    let n = append_change_by(&mut line, 0, b" -> ", number, before, after);
+    n <= 101
+}
+
+// Appends a variable that a run has changed: `  variable 3: 0 (0x0) -> 42 (0x2a)`.
+pub fn append_change(out: &mut [u8], at: usize, number: usize, before: u64, after: u64) -> usize
+    ensures count { λ r. ⌜ Counts r (now (out .exit)) ⌝ }
+    ensures text { λ r. ⌜ Appends (now (out .entry)) at (changeText number before after) (now (out .exit)) r ⌝ }
+{
+    if is_change_narrow(number, before, after) {
+        return append_change_by(out, at, b" -> ", number, before, after);
+    }
+    append_change_by(out, at, b"\n    -> ", number, before, after)
 }
 
 // Appends how much of the buffer is used: `buffer: 21 of 65536 bytes used`.

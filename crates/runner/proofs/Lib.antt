@@ -2,7 +2,7 @@
 pub mod Answering
 pub mod Inputs
 pub mod Entering
-pub mod Looping
+pub mod Leaving
 pub mod Reporting
 pub mod Settling
 pub mod Promises

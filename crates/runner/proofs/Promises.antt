@@ -21,6 +21,8 @@ use Rattle.runner.specs.declared.Value.{Value}
 use Rattle.runner.specs.declared.Outcome.{Outcome}
 use Rattle.runner.specs.declared.Outcome.the-variants.{Completed, Refused}
 use Rattle.runner.proofs.Reporting as reporting
+-- is-accepted: what the verifier accepts is accepted, as the functions behind the entries ask it
+pub use Rattle.runner.proofs.Entering.{is-accepted}
 
 module _ {g : Given} {r : Outcome} {v b : List ℕ} (ran : Ran g r v b) where
   -- ---- R2, demand 3: the steps are the machine's, at most the allowance, and at most the longest walk that the

@@ -190,7 +190,7 @@ fn run_accepted<'a>(
 }
 
 // 12 to 15, tried in that order; 0 where none is met.
-fn inputs_refusal(
+pub fn inputs_refusal(
     registers: &[u64],
     image_first: u64,
     image: &[u8],

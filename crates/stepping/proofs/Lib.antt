@@ -1,2 +1,4 @@
--- The work behind the contract of `step`.
+-- `Promises` is the page for users of this crate; the others hold the work behind it.
 pub mod Lifting
+pub mod Looping
+pub mod Promises

@@ -1,3 +1,4 @@
--- `Promises` is the page for users of this crate; `Filing` holds the work behind it.
+-- `Promises` is the page for users of this crate; the others hold the work behind it.
 pub mod Promises
 mod Filing
+mod Pieces

@@ -8,11 +8,10 @@ use Rattle.frames.specs.Division.{divideAtMost, divide}
 use Rattle.frames.specs.Trailer.{decodeTrailer}
 use Rattle.reader.specs.Located.{frameBefore, frameBack, located}
 use Rattle.reader.specs.Framed.{framed}
-use Rattle.reader.specs.Read.{reading, counting}
-use Rattle.tracefile.specs.Frames.{recordBytes, openingBytes, framesBytes}
+use Rattle.tracefile.specs.Frames.{framesBytes}
 
 -- tracepoint 7, 13 bytes of records, the record, and the end of the file
 in-the-file : framesBytes exampleFrame 21 1
     ≡ 0x07 ∷ 0x00 ∷ 0x0d ∷ 0x00 ∷ 0x00 ∷ 0x00 ∷ 0x4d ∷ 0x00 ∷ 0x10 ∷ 0x00 ∷ 0x00 ∷ 0x00 ∷ 0x00 ∷ 0x00 ∷ 0x00 ∷ 0x02 ∷ 0x00 ∷ 0x41 ∷ 0x00 ∷ 0x00 ∷ 0x00 ∷ []
-unfolding littleEndian littleBytes exampleFrame encode encodeAll decodeMemory decode divideAtMost divide decodeTrailer frameBefore frameBack located framed reading counting recordBytes openingBytes framesBytes
+unfolding littleEndian littleBytes exampleFrame encode encodeAll decodeMemory decode divideAtMost divide decodeTrailer frameBefore frameBack located framed framesBytes
 in-the-file = refl

@@ -4,8 +4,12 @@ use Prim.Native.Nat.{ℕ, zero, suc, _+_}
 use mathlib.Core.List.{List, [], _∷_, _++_}
 use lib.ListN.{length, take, drop}
 use Rattle.encoding.specs.LittleEndian.{littleBytes}
-use Rattle.frames.specs.Record.{Record, memory, variable, encode}
-use Rattle.reader.specs.Read.{Read, memoryRead, variableRead, refusedRead, Counted, counted, refusedCount, reading, counting}
+use Rattle.frames.specs.Record.{Record, memory, variable, encode, encodeAll}
+use Rattle.reader.specs.Located.{Located, frame, refused}
+use Rattle.reader.specs.Framed.{FrameRead, frameRead, refusedFrame, framed}
+use Rattle.reader.specs.NextRecord.{nextRecord}
+use Rattle.reader.specs.declared.RecordStep.{RecordStep}
+use Rattle.reader.specs.declared.RecordStep.the-variants.{Memory, Variable, Refused}
 
 -- a record as it stands in the file: variable numbers are one higher there
 abbrev pub exported : Record → Record
@@ -16,32 +20,36 @@ abbrev pub exportedAll : List Record → List Record
 exportedAll [] = []
 exportedAll (r ∷ rs) = exported r ∷ exportedAll rs
 
--- the bytes of a record, by what the reader answers
-unfoldable pub recordBytes : List ℕ → Read → List ℕ
-recordBytes buffer (memoryRead tag address long place) = encode (exported (memory address (take long (drop place buffer))))
-recordBytes buffer (variableRead tag number value) = encode (exported (variable number value))
-recordBytes buffer (refusedRead r) = []
-
--- n records of frame `number`, from record i on
-abbrev pub recordsFrom : List ℕ → ℕ → ℕ → ℕ → ℕ → List ℕ
-recordsFrom buffer used number i zero = []
-recordsFrom buffer used number i (suc n) = recordBytes buffer (reading buffer used number i) ++ recordsFrom buffer used number (suc i) n
-
--- tracepoint number (2 bytes), length of the records (4)
-unfoldable pub openingBytes : Counted → List ℕ
-openingBytes (counted tag start long n) = littleBytes 2 (tag .tracepoint) ++ littleBytes 4 long
-openingBytes (refusedCount r) = []
-
--- how many records are written: none of a refused frame
-abbrev pub recordCount : Counted → ℕ
-recordCount (counted tag start long n) = n
-recordCount (refusedCount r) = 0
-
-abbrev pub frameBytes : List ℕ → ℕ → ℕ → List ℕ
-frameBytes buffer used number =
-    openingBytes (counting buffer used number) ++ recordsFrom buffer used number 0 (recordCount (counting buffer used number))
+-- a frame: tracepoint number (2 bytes), length of the records (4), the records
+abbrev pub frameBytes : FrameRead → List ℕ
+frameBytes (frameRead tag start rs) = littleBytes 2 (tag .tracepoint) ++ littleBytes 4 (length (encodeAll rs)) ++ encodeAll (exportedAll rs)
+frameBytes (refusedFrame r) = []
 
 -- the n newest frames, the oldest of them first; then two zero bytes end the file
 unfoldable pub framesBytes : List ℕ → ℕ → ℕ → List ℕ
 framesBytes buffer used zero = 0 ∷ 0 ∷ []
-framesBytes buffer used (suc n) = frameBytes buffer used n ++ framesBytes buffer used n
+framesBytes buffer used (suc n) = frameBytes (framed buffer used n) ++ framesBytes buffer used n
+
+-- ---- the pieces of a frame
+-- its first bytes, by where it is
+unfoldable pub openingBytes : Located → List ℕ
+openingBytes (frame tag start long) = littleBytes 2 (tag .tracepoint) ++ littleBytes 4 long
+openingBytes (refused r) = []
+
+-- a record, by what the record walker tells of it
+unfoldable pub recordBytes : List ℕ → RecordStep → List ℕ
+recordBytes buffer (Memory address long place next) = encode (exported (memory address (take long (drop place buffer))))
+recordBytes buffer (Variable number value next) = encode (exported (variable number value))
+recordBytes buffer (Refused r) = []
+
+-- where the record behind it begins; the same place where there is none
+abbrev pub placeBehind : ℕ → RecordStep → ℕ
+placeBehind place (Memory address long bytes next) = next
+placeBehind place (Variable number value next) = next
+placeBehind place (Refused r) = place
+
+-- n records from a place on, each where the one before it ends
+abbrev pub recordsFrom : List ℕ → ℕ → ℕ → ℕ → List ℕ
+recordsFrom buffer end place zero = []
+recordsFrom buffer end place (suc n) =
+    recordBytes buffer (nextRecord buffer end place) ++ recordsFrom buffer end (placeBehind place (nextRecord buffer end place)) n

@@ -5,12 +5,13 @@ use Rattle.hexadecimal.specs.Hex.{hexOf}
 use Rattle.text_buffer.specs.Text.{bytesOf}
 use Rattle.text_buffer.specs.Decimal.{decimal}
 use Rattle.phrases.specs.Numbers.{hexText}
-use Rattle.reader.specs.Located.{Located, frame, refused}
 
--- the mark of the file; the size of a block of registers, which no frame has; and the state, with the number of frames
+-- the mark of the file; the size of a block of registers, which no frame has; and the state: stopped for an unknown
+-- reason, since none is recorded, and the number of frames. No line defines a tracepoint: where GDB has one, it shows its
+-- address as the program counter of the frames, and none is recorded.
 unfoldable pub startText : ℕ → List ℕ
 startText frames =
-    (0x7f ∷ []) ++ bytesOf "TRACE0\nR 1\nstatus 0;tstop::0;tframes:" ++ hexText frames ++ bytesOf ":tcreated:" ++ hexText frames ++ bytesOf "\n"
+    (0x7f ∷ []) ++ bytesOf "TRACE0\nR 1\nstatus 0;tunknown:0;tframes:" ++ hexText frames ++ bytesOf ":tcreated:" ++ hexText frames ++ bytesOf "\n"
 
 unfoldable pub nameText : ℕ → List ℕ
 nameText number = bytesOf "v" ++ decimal number
@@ -19,15 +20,6 @@ nameText number = bytesOf "v" ++ decimal number
 -- number
 unfoldable pub variableText : ℕ → List ℕ
 variableText number = bytesOf "tsv " ++ hexText (number + 1) ++ bytesOf ":0:0:" ++ hexOf (nameText number) ++ bytesOf "\n"
-
--- a tracepoint. Its address is not recorded: its number stands there, so that GDB tells tracepoints apart.
-unfoldable pub pointText : ℕ → List ℕ
-pointText tracepoint = bytesOf "tp T" ++ hexText tracepoint ++ bytesOf ":" ++ hexText tracepoint ++ bytesOf ":E:0:0\n"
-
--- the tracepoint of a frame
-unfoldable pub tracepointText : Located → List ℕ
-tracepointText (frame tag start long) = pointText (tag .tracepoint)
-tracepointText (refused r) = []
 
 -- the architecture, for addresses of 64 bits, and the empty line
 unfoldable pub targetText : List ℕ

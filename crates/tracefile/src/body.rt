@@ -4,10 +4,11 @@ ghost use Rattle.io.specs.Counts.{Counts};
 ghost use Rattle.text_buffer.specs.Text.{Appends};
 ghost use Rattle.encoding.specs.LittleEndian.{littleBytes};
 ghost use Rattle.frames.specs.Record.{memory, variable, encode};
-ghost use Rattle.reader.specs.Read.{reading, counting};
+ghost use Rattle.reader.specs.Located.{walked};
+ghost use Rattle.reader.specs.NextRecord.{nextRecord};
 ghost use Rattle.tracefile.specs.Frames.{recordBytes, openingBytes};
-use reader::CountAnswer;
-use reader::RecordAnswer;
+use reader::FrameAnswer;
+use reader::RecordStep;
 use text_buffer::append;
 
 fn append_little(out: &mut [u8], at: usize, value: u64, count: usize) -> usize
@@ -39,41 +40,34 @@ fn append_variable(out: &mut [u8], at: usize, number: u64, value: u64) -> usize
     append_little(out, b, value, 8)
 }
 
-// Record `index` of frame `number`, as it stands in the file; nothing where there is none.
-pub fn append_record(
-    out: &mut [u8],
-    at: usize,
-    buffer: &[u8],
-    used: usize,
-    number: u64,
-    index: u64,
-) -> usize
+// The record at `place` of the frame whose records end at `end`, as it stands in the file; nothing where there is none.
+pub fn append_record(out: &mut [u8], at: usize, buffer: &[u8], end: usize, place: usize) -> usize
     ensures count { λ r. ⌜ Counts r (now (out .exit)) ⌝ }
-    ensures text { λ r. ⌜ Appends (now (out .entry)) at (recordBytes (now (buffer .entry)) (reading (now (buffer .entry)) used number index)) (now (out .exit)) r ⌝ }
+    ensures text { λ r. ⌜ Appends (now (out .entry)) at (recordBytes (now (buffer .entry)) (nextRecord (now (buffer .entry)) end place)) (now (out .exit)) r ⌝ }
 {
-    match reader::read(buffer, used, number, index) {
-        RecordAnswer::Refused(refusal) => append(out, at, b""),
-        RecordAnswer::Variable(tag, variable, value) => {
-            let next = std::num::wrapping_add_u64(variable, 1);
-            append_variable(out, at, next, value)
+    match reader::next_record(buffer, end, place) {
+        RecordStep::Refused(refusal) => append(out, at, b""),
+        RecordStep::Variable(variable, value, next) => {
+            let number = std::num::wrapping_add_u64(variable, 1);
+            append_variable(out, at, number, value)
         }
-        RecordAnswer::Memory(tag, address, length, place) => {
-            let end = place + length;
-            append_memory(out, at, address, &buffer[place..end])
+        RecordStep::Memory(address, length, bytes, next) => {
+            let behind = bytes + length;
+            append_memory(out, at, address, &buffer[bytes..behind])
         }
     }
 }
 
-// The first 6 bytes of frame `number`; nothing where it is refused.
-pub fn append_opening(out: &mut [u8], at: usize, buffer: &[u8], used: usize, number: u64) -> usize
+// The first 6 bytes of the frame that ends at `end`; nothing where there is none.
+pub fn append_opening(out: &mut [u8], at: usize, buffer: &[u8], end: usize) -> usize
     ensures count { λ r. ⌜ Counts r (now (out .exit)) ⌝ }
-    ensures text { λ r. ⌜ Appends (now (out .entry)) at (openingBytes (counting (now (buffer .entry)) used number)) (now (out .exit)) r ⌝ }
+    ensures text { λ r. ⌜ Appends (now (out .entry)) at (openingBytes (walked (now (buffer .entry)) end)) (now (out .exit)) r ⌝ }
 {
-    match reader::count_records(buffer, used, number) {
-        CountAnswer::Records(tag, start, length, records) => {
+    match reader::walk(buffer, end) {
+        FrameAnswer::Frame(tag, start, length) => {
             let a = append_little(out, at, tag.tracepoint as u64, 2);
             append_little(out, a, length as u64, 4)
         }
-        CountAnswer::Refused(refusal) => append(out, at, b""),
+        FrameAnswer::Refused(refusal) => append(out, at, b""),
     }
 }

@@ -2,11 +2,9 @@
 ghost use Rattle.io.specs.Counts.{Counts};
 ghost use Rattle.hexadecimal.specs.Hex.{hexOf};
 ghost use Rattle.text_buffer.specs.Text.{Appends};
-ghost use Rattle.reader.specs.Located.{located};
-ghost use Rattle.tracefile.specs.Head.{startText, nameText, variableText, pointText, tracepointText, targetText};
+ghost use Rattle.tracefile.specs.Head.{startText, nameText, variableText, targetText};
 use hexadecimal::encode;
 use phrases::numbers::append_address;
-use reader::FrameAnswer;
 use text_buffer::append;
 use text_buffer::append_number;
 
@@ -15,7 +13,7 @@ pub fn append_start(out: &mut [u8], at: usize, frames: u64) -> usize
     ensures text { λ r. ⌜ Appends (now (out .entry)) at (startText frames) (now (out .exit)) r ⌝ }
 {
     let a = append(out, at, b"\x7f");
-    let b = append(out, a, b"TRACE0\nR 1\nstatus 0;tstop::0;tframes:");
+    let b = append(out, a, b"TRACE0\nR 1\nstatus 0;tunknown:0;tframes:");
     let c = append_address(out, b, frames);
     let d = append(out, c, b":tcreated:");
     let e = append_address(out, d, frames);
@@ -42,34 +40,6 @@ pub fn append_variable(out: &mut [u8], at: usize, number: u64) -> usize
     let c = append(out, b, b":0:0:");
     let d = append_name(out, c, number);
     append(out, d, b"\n")
-}
-
-fn append_point(out: &mut [u8], at: usize, tracepoint: u16) -> usize
-    ensures count { λ r. ⌜ Counts r (now (out .exit)) ⌝ }
-    ensures text { λ r. ⌜ Appends (now (out .entry)) at (pointText tracepoint) (now (out .exit)) r ⌝ }
-{
-    let a = append(out, at, b"tp T");
-    let b = append_address(out, a, tracepoint as u64);
-    let c = append(out, b, b":");
-    let d = append_address(out, c, tracepoint as u64);
-    append(out, d, b":E:0:0\n")
-}
-
-// The tracepoint that made frame `number`; nothing where there is no such frame.
-pub fn append_tracepoint(
-    out: &mut [u8],
-    at: usize,
-    buffer: &[u8],
-    used: usize,
-    number: u64,
-) -> usize
-    ensures count { λ r. ⌜ Counts r (now (out .exit)) ⌝ }
-    ensures text { λ r. ⌜ Appends (now (out .entry)) at (tracepointText (located (now (buffer .entry)) used number)) (now (out .exit)) r ⌝ }
-{
-    match reader::locate(buffer, used, number) {
-        FrameAnswer::Frame(tag, start, length) => append_point(out, at, tag.tracepoint),
-        FrameAnswer::Refused(refusal) => append(out, at, b""),
-    }
 }
 
 // The architecture, and the empty line that ends the text.

@@ -12,8 +12,8 @@ use Rattle.refusals.specs.Refusal.{refusal}
 use Rattle.verdict.specs.Verdict.{accepted, refused}
 use Rattle.instruction_text.specs.Names.{names, nameOf}
 use Rattle.text_buffer.specs.Decimal.{decimalBy, decimal}
-use Rattle.instruction_text.specs.Text.{signedText, aligned, operandText, textOf, textAt, namedAt, isInstruction, plainAt}
-use Rattle.phrases.specs.Numbers.{countText}
+use Rattle.instruction_text.specs.Text.{aligned, operandText, textOf, textAt, namedAt, isInstruction, plainAt}
+use Rattle.phrases.specs.Numbers.{countText, signedText}
 use Rattle.phrases.specs.Refused.{refusedAt}
 use Rattle.verify_lines.specs.Verdict.{acceptedText, opcodeText, thereText, instructionOf, refusedLine, verdictText, heightText}
 use Rattle.verify_lines.specs.Listed.{gapText, besideText, rowText, isListed, firstOf, listedText, answerText}

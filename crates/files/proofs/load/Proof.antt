@@ -6,8 +6,11 @@ use mathlib.Core.Path.{_≡_}
 use Rattle.files.proofs.load.Statement.{statement}
 use Rattle.files.proofs.load.Tie as tie
 
-open-read-requires : tie.Need-open-read-requires
-open-read-requires c κs = search needs
+open-requires : tie.Need-open-requires
+open-requires c κs = search needs
+
+errno-requires : tie.Need-errno-requires
+errno-requires c κs = search needs
 
 returns : tie.Need-returns
 returns c = λ m q. let z : _≡_ {A = ℕ} 0 1 = cc in omega arith
@@ -27,4 +30,4 @@ returns-2 c = search needs
 pub load-spec : {M : Type 1} → statement M
 load-spec =
     tie.close
-    (tie.spec open-read-requires returns load-rest-requires close-requires same-length returns-2)
+    (tie.spec open-requires errno-requires returns load-rest-requires close-requires same-length returns-2)

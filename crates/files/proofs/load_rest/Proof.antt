@@ -28,6 +28,9 @@ part-read-end c = search needs
 read-requires : tie.Need-read-requires Inv-loop μ-loop
 read-requires c κs = search needs
 
+errno-requires : tie.Need-errno-requires Inv-loop μ-loop
+errno-requires c κs = search needs
+
 same-length : tie.Need-same-length Inv-loop μ-loop
 same-length c = search needs
 
@@ -87,6 +90,7 @@ load-rest-spec =
     part-read-start
     part-read-end
     read-requires
+    errno-requires
     same-length
     returns
     sub-count

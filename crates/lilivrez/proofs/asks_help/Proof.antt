@@ -9,8 +9,8 @@ Inv-loop count i₀ i = i ≤ count + 2
 abbrev μ-loop : tie.MeasureT-loop
 μ-loop count i₀ i = count + 2 - i
 
-arg-count-requires : tie.Need-arg-count-requires Inv-loop μ-loop
-arg-count-requires c κs = search needs
+count-requires : tie.Need-count-requires Inv-loop μ-loop
+count-requires c κs = search needs
 
 loop-holds : tie.Need-loop-holds Inv-loop μ-loop
 loop-holds c = search needs
@@ -39,7 +39,7 @@ asks-help-spec =
     (tie.spec
     Inv-loop
     μ-loop
-    arg-count-requires
+    count-requires
     loop-holds
     is-help-at-requires
     returns

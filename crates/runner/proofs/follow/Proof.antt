@@ -1,11 +1,13 @@
 use borrow.Author.Needs.{needs}
 use mathlib.Core.Path.{_≡_, refl, _∙_}
 use Prim.Native.Nat.{_-_, _≤_, _<_}
+use native.Mathlib.Nat.{sub-self}
 use native.Mathlib.Omega.{arith}
 use lib.ListN.{length}
 use Rattle.memory.specs.Spans.{target}
 use Rattle.machine.specs.Given.{given}
-use Rattle.runner.proofs.Looping.{Loop, loop-start, as-long, step-ready, still-left, one-less, turn, room-left, ends, halts, spent}
+use Rattle.stepping.proofs.Promises.{Loop, loop-start, as-long, step-ready, still-left, one-less, turn, room-left}
+use Rattle.runner.proofs.Leaving.{ends, halts, spent}
 use Rattle.runner.proofs.follow.Statement.{statement}
 use Rattle.runner.proofs.follow.Tie as tie
 
@@ -28,7 +30,7 @@ abbrev held-before : Stepped → tie.At-loop Inv-loop μ-loop
 held-before t = t .before .before .before .before .before
 
 loop-holds : tie.Need-loop-holds Inv-loop μ-loop
-loop-holds c = let s = c .before .before .before .before .before in (omega arith, loop-start (s .pre .1 .accepts) (s .pre .3) refl (s .pre .5))
+loop-holds c = let s = c .before .before .before .before .before in (omega arith, loop-start (s .pre .1 .accepts) (s .pre .3) refl (s .pre .5) (sub-self (s .args .allowance)))
 
 step-requires : tie.Need-step-requires Inv-loop μ-loop
 step-requires c κs =
@@ -50,30 +52,30 @@ ending i = i .before .before .before .before .before .before
 sub-close-frame : tie.Need-sub-close-frame Inv-loop μ-loop
 sub-close-frame c =
     let i = c .before in let t = ending i in let v = held-before t .loop .inv in
-    room-left (start t .pre .1 .accepts) (v .1) (still-left (t .before .before .before .before .loop-test .taken) (v .0)) (t .step .ensures) (i .if2 .taken) .0
+    room-left (start t .pre .1 .accepts) (v .1) (t .step .ensures) (i .if2 .taken) .0
 
 close-frame-requires : tie.Need-close-frame-requires Inv-loop μ-loop
 close-frame-requires c κs =
     let i = c .before in let t = ending i in let v = held-before t .loop .inv in
-    let e = room-left (start t .pre .1 .accepts) (v .1) (still-left (t .before .before .before .before .loop-test .taken) (v .0)) (t .step .ensures) (i .if2 .taken) in
+    let e = room-left (start t .pre .1 .accepts) (v .1) (t .step .ensures) (i .if2 .taken) in
     (e .1, omega (arith, e, start t .pre .4))
 
 add-length : tie.Need-add-length Inv-loop μ-loop
 add-length c =
     let i = c .before .before .before .before in let t = ending i in let v = held-before t .loop .inv in
-    let e = room-left (start t .pre .1 .accepts) (v .1) (still-left (t .before .before .before .before .loop-test .taken) (v .0)) (t .step .ensures) (i .if2 .taken) in
+    let e = room-left (start t .pre .1 .accepts) (v .1) (t .step .ensures) (i .if2 .taken) in
     omega (arith, e, start t .pre .4)
 
 value-of-requires : tie.Need-value-of-requires Inv-loop μ-loop
 value-of-requires c κs =
     let i = c .before .before .before .before .before in let t = ending i in let v = held-before t .loop .inv in
-    room-left (start t .pre .1 .accepts) (v .1) (still-left (t .before .before .before .before .loop-test .taken) (v .0)) (t .step .ensures) (i .if2 .taken) .3
+    room-left (start t .pre .1 .accepts) (v .1) (t .step .ensures) (i .if2 .taken) .3
 
 same-length : tie.Need-same-length Inv-loop μ-loop
 same-length c =
     let f = c .before .before .before .before in let i = f .before .before in let t = ending i in let v = held-before t .loop .inv in
     f .close-frame .kept .0
-    ∙ room-left (start t .pre .1 .accepts) (v .1) (still-left (t .before .before .before .before .loop-test .taken) (v .0)) (t .step .ensures) (i .if2 .taken) .2
+    ∙ room-left (start t .pre .1 .accepts) (v .1) (t .step .ensures) (i .if2 .taken) .2
 
 returns : tie.Need-returns Inv-loop μ-loop
 returns c =
@@ -103,7 +105,7 @@ loop-less c = omega arith
 loop-again : tie.Need-loop-again Inv-loop μ-loop
 loop-again c =
     let t = c .before .before .before .before in let some = t .before .before .before .before .loop-test .taken in let i = held-before t .loop .inv in
-    (omega (arith, i .0), rw (← (one-less some (i .0))) (turn (start t .pre .1 .accepts) (i .1) (still-left some (i .0)) (t .step .ensures) (c .if1 .left)))
+    (omega (arith, i .0), rw (← (one-less some (i .0))) (turn (start t .pre .1 .accepts) (i .1) (t .step .ensures) (c .if1 .left)))
 
 sub-steps-2 : tie.Need-sub-steps-2 Inv-loop μ-loop
 sub-steps-2 c = omega (arith, c .before .loop .inv .0)

@@ -27,32 +27,26 @@ part-show-end c = omega (arith, c .before .before .before .before .before .load 
 show-requires : tie.Need-show-requires
 show-requires c κs = search needs
 
+enum-known-errno : tie.Need-enum-known-errno
+enum-known-errno c = search needs
+
+print-failure-requires : tie.Need-print-failure-requires
+print-failure-requires c κs = search needs
+
+enum-known-errno-2 : tie.Need-enum-known-errno-2
+enum-known-errno-2 c = search needs
+
+print-failure-requires-2 : tie.Need-print-failure-requires-2
+print-failure-requires-2 c κs = search needs
+
 enum-told : tie.Need-enum-told
 enum-told c = search needs
 
-slice-aggregate-print-error-of : tie.Need-slice-aggregate-print-error-of
-slice-aggregate-print-error-of c = search needs
+slice-aggregate-print-error-at : tie.Need-slice-aggregate-print-error-at
+slice-aggregate-print-error-at c = search needs
 
-print-error-of-requires : tie.Need-print-error-of-requires
-print-error-of-requires c κs = search needs
-
-enum-told-2 : tie.Need-enum-told-2
-enum-told-2 c = search needs
-
-slice-aggregate-print-error-of-2 : tie.Need-slice-aggregate-print-error-of-2
-slice-aggregate-print-error-of-2 c = search needs
-
-print-error-of-requires-2 : tie.Need-print-error-of-requires-2
-print-error-of-requires-2 c κs = search needs
-
-enum-told-3 : tie.Need-enum-told-3
-enum-told-3 c = search needs
-
-slice-aggregate-print-error-of-3 : tie.Need-slice-aggregate-print-error-of-3
-slice-aggregate-print-error-of-3 c = search needs
-
-print-error-of-requires-3 : tie.Need-print-error-of-requires-3
-print-error-of-requires-3 c κs = search needs
+print-error-at-requires : tie.Need-print-error-at-requires
+print-error-at-requires c κs = search needs
 
 returns : tie.Need-returns
 returns c = search needs
@@ -78,15 +72,13 @@ show-file-spec =
     part-show-start
     part-show-end
     show-requires
+    enum-known-errno
+    print-failure-requires
+    enum-known-errno-2
+    print-failure-requires-2
     enum-told
-    slice-aggregate-print-error-of
-    print-error-of-requires
-    enum-told-2
-    slice-aggregate-print-error-of-2
-    print-error-of-requires-2
-    enum-told-3
-    slice-aggregate-print-error-of-3
-    print-error-of-requires-3
+    slice-aggregate-print-error-at
+    print-error-at-requires
     returns
     returns-2
     returns-3

@@ -1,16 +1,16 @@
 use borrow.Author.Needs.{needs}
-use Prim.Native.Nat.{_≤_, _-_}
+use Prim.Native.Nat.{_-_}
 use Rattle.command_frames.proofs.gdb.count_last.Statement.{statement}
 use Rattle.command_frames.proofs.gdb.count_last.Tie as tie
 
 abbrev Inv-loop : tie.InvT-loop
-Inv-loop buffer used number records count₀ index₀ count index = index ≤ records
+Inv-loop buffer start end count₀ place₀ count place = Unit {0}
 
 abbrev μ-loop : tie.MeasureT-loop
-μ-loop buffer used number records count₀ index₀ count index = records - index
+μ-loop buffer start end count₀ place₀ count place = end - place
 
 loop-holds : tie.Need-loop-holds Inv-loop μ-loop
-loop-holds c = search needs
+loop-holds c = tt
 
 ends-last-requires : tie.Need-ends-last-requires Inv-loop μ-loop
 ends-last-requires c κs = search needs
@@ -21,14 +21,14 @@ one-if-requires c κs = search needs
 wrapping-add-u64-requires : tie.Need-wrapping-add-u64-requires Inv-loop μ-loop
 wrapping-add-u64-requires c κs = search needs
 
-add-index : tie.Need-add-index Inv-loop μ-loop
-add-index c = search needs
+place-behind-requires : tie.Need-place-behind-requires Inv-loop μ-loop
+place-behind-requires c κs = search needs
 
 loop-less : tie.Need-loop-less Inv-loop μ-loop
 loop-less c = search needs
 
 loop-again : tie.Need-loop-again Inv-loop μ-loop
-loop-again c = search needs
+loop-again c = tt
 
 returns : tie.Need-returns Inv-loop μ-loop
 returns c = search needs
@@ -43,7 +43,7 @@ count-last-spec =
     ends-last-requires
     one-if-requires
     wrapping-add-u64-requires
-    add-index
+    place-behind-requires
     loop-less
     loop-again
     returns)

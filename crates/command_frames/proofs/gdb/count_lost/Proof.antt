@@ -4,22 +4,25 @@ use Rattle.command_frames.proofs.gdb.count_lost.Statement.{statement}
 use Rattle.command_frames.proofs.gdb.count_lost.Tie as tie
 
 abbrev Inv-loop : tie.InvT-loop
-Inv-loop buffer used frames lost₀ number₀ lost number = number ≤ frames
+Inv-loop buffer ends frames lost₀ number₀ lost number = number ≤ frames
 
 abbrev μ-loop : tie.MeasureT-loop
-μ-loop buffer used frames lost₀ number₀ lost number = frames - number
+μ-loop buffer ends frames lost₀ number₀ lost number = frames - number
 
 loop-holds : tie.Need-loop-holds Inv-loop μ-loop
 loop-holds c = search needs
 
-tracepoint-of-requires : tie.Need-tracepoint-of-requires Inv-loop μ-loop
-tracepoint-of-requires c κs = search needs
+end-at-requires : tie.Need-end-at-requires Inv-loop μ-loop
+end-at-requires c κs = search needs
 
 records-of-requires : tie.Need-records-of-requires Inv-loop μ-loop
 records-of-requires c κs = search needs
 
 count-last-requires : tie.Need-count-last-requires Inv-loop μ-loop
 count-last-requires c κs = search needs
+
+tracepoint-of-requires : tie.Need-tracepoint-of-requires Inv-loop μ-loop
+tracepoint-of-requires c κs = search needs
 
 with-frame-requires : tie.Need-with-frame-requires Inv-loop μ-loop
 with-frame-requires c κs = search needs
@@ -43,9 +46,10 @@ count-lost-spec =
     Inv-loop
     μ-loop
     loop-holds
-    tracepoint-of-requires
+    end-at-requires
     records-of-requires
     count-last-requires
+    tracepoint-of-requires
     with-frame-requires
     add-number
     loop-less

@@ -4,10 +4,10 @@ use Rattle.command_frames.proofs.show.print_dump.Statement.{statement}
 use Rattle.command_frames.proofs.show.print_dump.Tie as tie
 
 abbrev Inv-loop : tie.InvT-loop
-Inv-loop buffer used number index offset₀ offset = offset ≤ 65551
+Inv-loop buffer end place offset₀ offset = offset ≤ 65551
 
 abbrev μ-loop : tie.MeasureT-loop
-μ-loop buffer used number index offset₀ offset = 65536 - offset
+μ-loop buffer end place offset₀ offset = 65536 - offset
 
 loop-holds : tie.Need-loop-holds Inv-loop μ-loop
 loop-holds c = search needs

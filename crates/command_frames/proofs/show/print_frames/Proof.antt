@@ -1,49 +1,53 @@
 use borrow.Author.Needs.{needs}
-use Prim.Native.Nat.{_≤_, _-_}
+use denote.Ref.{now}
+use native.Mathlib.Omega.{arith}
+use mathlib.Core.Path.{sym, ap, _∙_}
+use Rattle.reader.specs.Answers.{locatedOf}
+use Rattle.reader.proofs.Promises.{walked-back}
 use Rattle.command_frames.proofs.show.print_frames.Statement.{statement}
 use Rattle.command_frames.proofs.show.print_frames.Tie as tie
 
 abbrev Inv-loop : tie.InvT-loop
-Inv-loop buffer used number₀ refused₀ number refused = (refused ≤ number) × (number ≤ 65536)
+Inv-loop buffer used place₀ number₀ refused₀ place number refused = Unit {0}
 
 abbrev μ-loop : tie.MeasureT-loop
-μ-loop buffer used number₀ refused₀ number refused = 65536 - number
+μ-loop buffer used place₀ number₀ refused₀ place number refused = place
 
 loop-holds : tie.Need-loop-holds Inv-loop μ-loop
-loop-holds c = search needs
+loop-holds c = tt
 
-walk-refusal-requires : tie.Need-walk-refusal-requires Inv-loop μ-loop
-walk-refusal-requires c κs = search needs
+walk-requires : tie.Need-walk-requires Inv-loop μ-loop
+walk-requires c κs = search needs
 
-print-completed-frames-requires : tie.Need-print-completed-frames-requires Inv-loop μ-loop
-print-completed-frames-requires c κs = search needs
+enum-known-refusal : tie.Need-enum-known-refusal Inv-loop μ-loop
+enum-known-refusal c = search needs
+
+print-end-requires : tie.Need-print-end-requires Inv-loop μ-loop
+print-end-requires c κs = search needs
 
 returns : tie.Need-returns Inv-loop μ-loop
 returns c = search needs
 
+enum-known-tag : tie.Need-enum-known-tag Inv-loop μ-loop
+enum-known-tag c = search needs
+
 print-frame-requires : tie.Need-print-frame-requires Inv-loop μ-loop
 print-frame-requires c κs = search needs
-
-returns-2 : tie.Need-returns-2 Inv-loop μ-loop
-returns-2 c = search needs
 
 refused-in-requires : tie.Need-refused-in-requires Inv-loop μ-loop
 refused-in-requires c κs = search needs
 
-add-refused : tie.Need-add-refused Inv-loop μ-loop
-add-refused c = search needs
+wrapping-add-u64-requires : tie.Need-wrapping-add-u64-requires Inv-loop μ-loop
+wrapping-add-u64-requires c κs = search needs
 
-add-number : tie.Need-add-number Inv-loop μ-loop
-add-number c = search needs
+wrapping-add-u64-requires-2 : tie.Need-wrapping-add-u64-requires-2 Inv-loop μ-loop
+wrapping-add-u64-requires-2 c κs = search needs
 
 loop-less : tie.Need-loop-less Inv-loop μ-loop
-loop-less c = search needs
+loop-less c = omega (arith, walked-back (now (c .before .before .before .before .before .before .before .before .before .before .args .buffer)) (c .before .before .before .before .before .before .before .before .loop .place) (sym (ap locatedOf (sym (c .before .before .before .before .before .tag .given .1)) ∙ c .before .before .before .before .before .before .before .walk .ensures)))
 
 loop-again : tie.Need-loop-again Inv-loop μ-loop
-loop-again c = search needs
-
-returns-3 : tie.Need-returns-3 Inv-loop μ-loop
-returns-3 c = search needs
+loop-again c = tt
 
 pub print-frames-spec : {M : Type 1} → statement M
 print-frames-spec =
@@ -52,14 +56,14 @@ print-frames-spec =
     Inv-loop
     μ-loop
     loop-holds
-    walk-refusal-requires
-    print-completed-frames-requires
+    walk-requires
+    enum-known-refusal
+    print-end-requires
     returns
+    enum-known-tag
     print-frame-requires
-    returns-2
     refused-in-requires
-    add-refused
-    add-number
+    wrapping-add-u64-requires
+    wrapping-add-u64-requires-2
     loop-less
-    loop-again
-    returns-3)
+    loop-again)

@@ -8,11 +8,11 @@ use Rattle.command_run.proofs.run.run_lines.Statement.{statement}
 use Rattle.command_run.proofs.run.run_lines.Tie as tie
 
 abbrev Inv-loop : tie.InvT-loop
-Inv-loop fd name input₀ text₀ registers₀ image₀ memory₀ variables₀ buffer₀ setting₀ line₀ number₀ t13 input text registers image memory variables buffer setting line number =
-    (length input ≡ 65536) × (length text ≡ 65536) × (length registers ≡ 257) × (length image ≡ 1048576) × (length memory ≡ 1048576) × (length buffer ≡ 65536)
+Inv-loop fd name input₀ text₀ registers₀ spans₀ variables₀ buffer₀ inputs₀ tally₀ setting₀ line₀ number₀ input text registers spans variables buffer inputs tally setting line number =
+    (length input ≡ 65536) × (length text ≡ 65536) × (length registers ≡ 257) × (length spans ≡ 1572864) × (length buffer ≡ 65536)
 
 abbrev μ-loop : tie.MeasureT-loop
-μ-loop fd name input₀ text₀ registers₀ image₀ memory₀ variables₀ buffer₀ setting₀ line₀ number₀ t13 input text registers image memory variables buffer setting line number =
+μ-loop fd name input₀ text₀ registers₀ spans₀ variables₀ buffer₀ inputs₀ tally₀ setting₀ line₀ number₀ input text registers spans variables buffer inputs tally setting line number =
     2 ^ 64 - number
 
 large-buffer-requires : tie.Need-large-buffer-requires Inv-loop μ-loop
@@ -21,20 +21,23 @@ large-buffer-requires c κs = search needs
 large-buffer-requires-2 : tie.Need-large-buffer-requires-2 Inv-loop μ-loop
 large-buffer-requires-2 c κs = search needs
 
+spans-buffer-requires : tie.Need-spans-buffer-requires Inv-loop μ-loop
+spans-buffer-requires c κs = search needs
+
 large-buffer-requires-3 : tie.Need-large-buffer-requires-3 Inv-loop μ-loop
 large-buffer-requires-3 c κs = search needs
-
-mebibyte-buffer-requires : tie.Need-mebibyte-buffer-requires Inv-loop μ-loop
-mebibyte-buffer-requires c κs = search needs
-
-mebibyte-buffer-requires-2 : tie.Need-mebibyte-buffer-requires-2 Inv-loop μ-loop
-mebibyte-buffer-requires-2 c κs = search needs
 
 start-requires : tie.Need-start-requires Inv-loop μ-loop
 start-requires c κs = search needs
 
 start-of-requires : tie.Need-start-of-requires Inv-loop μ-loop
 start-of-requires c κs = search needs
+
+identity-requires : tie.Need-identity-requires Inv-loop μ-loop
+identity-requires c κs = search needs
+
+keep-requires : tie.Need-keep-requires Inv-loop μ-loop
+keep-requires c κs = search needs
 
 loop-holds : tie.Need-loop-holds Inv-loop μ-loop
 loop-holds c = search needs
@@ -48,11 +51,14 @@ slice-aggregate-next-2 c = search needs
 next-requires : tie.Need-next-requires Inv-loop μ-loop
 next-requires c κs = search needs
 
-slice-aggregate-print-error-of : tie.Need-slice-aggregate-print-error-of Inv-loop μ-loop
-slice-aggregate-print-error-of c = search needs
+errno-requires : tie.Need-errno-requires Inv-loop μ-loop
+errno-requires c κs = search needs
 
-print-error-of-requires : tie.Need-print-error-of-requires Inv-loop μ-loop
-print-error-of-requires c κs = search needs
+print-failure-requires : tie.Need-print-failure-requires Inv-loop μ-loop
+print-failure-requires c κs = search needs
+
+returns : tie.Need-returns Inv-loop μ-loop
+returns c = search needs
 
 slice-aggregate-take-line : tie.Need-slice-aggregate-take-line Inv-loop μ-loop
 slice-aggregate-take-line c = search needs
@@ -66,38 +72,26 @@ slice-aggregate-take-line-3 c = search needs
 slice-aggregate-take-line-4 : tie.Need-slice-aggregate-take-line-4 Inv-loop μ-loop
 slice-aggregate-take-line-4 c = search needs
 
-slice-aggregate-take-line-5 : tie.Need-slice-aggregate-take-line-5 Inv-loop μ-loop
-slice-aggregate-take-line-5 c = search needs
-
 take-line-requires : tie.Need-take-line-requires Inv-loop μ-loop
 take-line-requires c κs = search needs
-
-add-number : tie.Need-add-number Inv-loop μ-loop
-add-number c =
-    let b = c .before .before .before .before .before .before .before .before .before .before in
-    let t = b .before .before .before .before .before .before .before .before .before .before .loop-test .taken in
-    record { fits = omega (arith, t) }
-
-loop-less : tie.Need-loop-less Inv-loop μ-loop
-loop-less c =
-    let b = c .before .before .before .before .before .before .before .before .before .before in
-    let t = b .before .before .before .before .before .before .before .before .before .before .loop-test .taken in
-    omega (arith, t)
-
-loop-again : tie.Need-loop-again Inv-loop μ-loop
-loop-again c = search needs
-
-returns : tie.Need-returns Inv-loop μ-loop
-returns c = search needs
 
 returns-2 : tie.Need-returns-2 Inv-loop μ-loop
 returns-2 c = search needs
 
+add-number : tie.Need-add-number Inv-loop μ-loop
+add-number c = record { fits = omega (arith, c .before .before .before .before .before .before .before .before .before .before .before .before .before .before .before .before .before .before .before .before .loop-test .taken) }
+
+loop-less : tie.Need-loop-less Inv-loop μ-loop
+loop-less c = omega (arith, c .before .before .before .before .before .before .before .before .before .before .before .before .before .before .before .before .before .before .before .before .loop-test .taken)
+
+loop-again : tie.Need-loop-again Inv-loop μ-loop
+loop-again c = search needs
+
+print-completed-requires : tie.Need-print-completed-requires Inv-loop μ-loop
+print-completed-requires c κs = search needs
+
 returns-3 : tie.Need-returns-3 Inv-loop μ-loop
 returns-3 c = search needs
-
-returns-4 : tie.Need-returns-4 Inv-loop μ-loop
-returns-4 c = search needs
 
 pub run-lines-spec : {M : Type 1} → statement M
 run-lines-spec =
@@ -107,27 +101,27 @@ run-lines-spec =
     μ-loop
     large-buffer-requires
     large-buffer-requires-2
-    mebibyte-buffer-requires
-    mebibyte-buffer-requires-2
+    spans-buffer-requires
     large-buffer-requires-3
     start-requires
     start-of-requires
+    identity-requires
+    keep-requires
     loop-holds
     slice-aggregate-next
     slice-aggregate-next-2
     next-requires
-    slice-aggregate-print-error-of
-    print-error-of-requires
+    errno-requires
+    print-failure-requires
+    returns
     slice-aggregate-take-line
     slice-aggregate-take-line-2
     slice-aggregate-take-line-3
     slice-aggregate-take-line-4
-    slice-aggregate-take-line-5
     take-line-requires
+    returns-2
     add-number
     loop-less
     loop-again
-    returns
-    returns-2
-    returns-3
-    returns-4)
+    print-completed-requires
+    returns-3)

@@ -12,8 +12,8 @@ abbrev μ-loop : tie.MeasureT-loop
 loop-holds : tie.Need-loop-holds Inv-loop μ-loop
 loop-holds c = search needs
 
-arg-count-requires : tie.Need-arg-count-requires Inv-loop μ-loop
-arg-count-requires c κs = search needs
+count-requires : tie.Need-count-requires Inv-loop μ-loop
+count-requires c κs = search needs
 
 with-argument-requires : tie.Need-with-argument-requires Inv-loop μ-loop
 with-argument-requires c κs = search needs
@@ -40,7 +40,7 @@ requested-spec =
     Inv-loop
     μ-loop
     loop-holds
-    arg-count-requires
+    count-requires
     with-argument-requires
     returns
     add-i

@@ -65,7 +65,7 @@ same-length c = c .before .before .append5 .kept .0 ∙ c .before .before .befor
 
 returns : tie.Need-returns
 unfolding someFrameText
-returns c = let a = c .before .before .before .before .before .before .before .before .before .before .before .before .before .before .before .before .before .before .before .before .before .before .before .before .before .before .before .before .before .before .before .before .before .before .before .before .before .before .before .before .before .before .before .before .before .args in (c .before .before .append5 .ensures .0, (more (more (more (more (more (more (more (more (one (bytesOf "frame ") (c .before .before .before .before .before .before .before .before .before .before .before .before .before .before .before .before .before .before .before .before .before .before .before .before .before .before .before .before .before .before .before .before .before .before .before .before .before .before .before .before .before .append .ensures .1)) (decimal (a .number)) (appends-number (a .number) (c .before .before .before .before .before .before .before .before .before .before .before .before .before .before .before .before .before .before .before .before .before .before .before .before .before .before .before .before .before .before .before .before .before .before .before .before .before .append-number .ensures .1))) (bytesOf ": tracepoint ") (c .before .before .before .before .before .before .before .before .before .before .before .before .before .before .before .before .before .before .before .before .before .before .before .before .before .before .before .before .before .before .before .before .append2 .ensures .1)) (decimal (a .tag .tracepoint)) (appends-number (a .tag .tracepoint) (c .before .before .before .before .before .before .before .before .before .before .before .before .before .before .before .before .before .before .before .before .before .before .before .before .before .before .before .append-number2 .ensures .1))) (bytesOf ", ") (c .before .before .before .before .before .before .before .before .before .before .before .before .before .before .before .before .before .before .before .before .before .before .append3 .ensures .1)) (countText (a .records) (bytesOf "record")) (c .before .before .before .before .before .before .before .before .before .before .before .before .before .before .before .before .before .append-count .ensures .1)) (bytesOf ", ") (c .before .before .before .before .before .before .before .before .before .before .before .before .append4 .ensures .1)) (countText (a .length) (bytesOf "byte")) (c .before .before .before .before .before .before .before .append-count2 .ensures .1)) (bytesOf "\n") (c .before .before .append5 .ensures .1)) .text)
+returns c = let a = c .before .before .before .before .before .before .before .before .before .before .before .before .before .before .before .before .before .before .before .before .before .before .before .before .before .before .before .before .before .before .before .before .before .before .before .before .before .before .before .before .before .before .before .before .before .args in (c .before .before .append5 .ensures .0, (more (more (more (more (more (more (more (more (one (bytesOf "frame ") (c .before .before .before .before .before .before .before .before .before .before .before .before .before .before .before .before .before .before .before .before .before .before .before .before .before .before .before .before .before .before .before .before .before .before .before .before .before .before .before .before .before .append .ensures .1)) (decimal (a .number)) (appends-number (a .number) (c .before .before .before .before .before .before .before .before .before .before .before .before .before .before .before .before .before .before .before .before .before .before .before .before .before .before .before .before .before .before .before .before .before .before .before .before .before .append-number .ensures .1))) (bytesOf ": tracepoint ") (c .before .before .before .before .before .before .before .before .before .before .before .before .before .before .before .before .before .before .before .before .before .before .before .before .before .before .before .before .before .before .before .before .append2 .ensures .1)) (decimal (a .tag .tracepoint)) (appends-number (a .tag .tracepoint) (c .before .before .before .before .before .before .before .before .before .before .before .before .before .before .before .before .before .before .before .before .before .before .before .before .before .before .before .append-number2 .ensures .1))) (bytesOf ", ") (c .before .before .before .before .before .before .before .before .before .before .before .before .before .before .before .before .before .before .before .before .before .before .append3 .ensures .1)) (countText (a .records) (bytesOf "record")) (c .before .before .before .before .before .before .before .before .before .before .before .before .before .before .before .before .before .append-count .ensures .1)) (bytesOf ", ") (c .before .before .before .before .before .before .before .before .before .before .before .before .append4 .ensures .1)) (countText (a .length) (bytesOf "byte")) (c .before .before .before .before .before .before .before .append-count2 .ensures .1)) (bytesOf " encoded\n") (c .before .before .append5 .ensures .1)) .text)
 
 pub append-some-frame-spec : {M : Type 1} → statement M
 append-some-frame-spec =

@@ -1,7 +1,7 @@
 use borrow.Author.Needs.{needs}
 use Prim.Native.Nat.{ℕ}
 use mathlib.Core.List.{List, [], _∷_, _++_}
-use Rattle.instruction_text.specs.Text.{signedText}
+use Rattle.phrases.specs.Numbers.{signedText}
 use Rattle.text_buffer.proofs.Promises.{appends-then, appends-same}
 use Rattle.instruction_text.proofs.Texting.{operand-none, operand-some}
 use Rattle.instruction_text.proofs.writing.append_operand.Statement.{statement}
@@ -38,7 +38,7 @@ returns-2 c =
     let a = c .before .before .before .before .before .before .before .before .before .before .before .args in
     let s : List ℕ = 32 ∷ [] in
     appends-same (s ++ signedText (a .value)) _ (operand-some (a .count) (a .value) (c .before .before .before .before .before .before .before .before .before .if1 .left))
-    (appends-then s (signedText (a .value)) (c .before .before .before .before .before .before .append2 .ensures .1) (c .before .before .append-signed .ensures))
+    (appends-then s (signedText (a .value)) (c .before .before .before .before .before .before .append2 .ensures .1) (c .before .before .append-signed .ensures .1))
 
 pub append-operand-spec : {M : Type 1} → statement M
 append-operand-spec =

@@ -47,7 +47,16 @@ begins-with-requires-5 : tie.Need-begins-with-requires-5
 begins-with-requires-5 c κs = search needs
 
 returns-5 : tie.Need-returns-5
-returns-5 c = trying-last (trying-on (trying-on (trying-on (trying-on (trying-start (now (c .before .before .before .before .before .before .before .before .before .before .before .before .before .before .before .args .line))) _ (c .before .before .before .before .before .before .before .before .before .before .before .before .begins-with .ensures) (c .before .before .before .before .before .before .before .before .before .before .before .if1 .left)) _ (c .before .before .before .before .before .before .before .before .before .begins-with2 .ensures) (c .before .before .before .before .before .before .before .before .if2 .left)) _ (c .before .before .before .before .before .before .begins-with3 .ensures) (c .before .before .before .before .before .if3 .left)) _ (c .before .before .before .begins-with4 .ensures) (c .before .before .if4 .left)) _ (c .begins-with5 .ensures)
+returns-5 c = trying-here (trying-on (trying-on (trying-on (trying-on (trying-start (now (c .before .before .before .before .before .before .before .before .before .before .before .before .before .before .before .before .args .line))) _ (c .before .before .before .before .before .before .before .before .before .before .before .before .before .begins-with .ensures) (c .before .before .before .before .before .before .before .before .before .before .before .before .if1 .left)) _ (c .before .before .before .before .before .before .before .before .before .before .begins-with2 .ensures) (c .before .before .before .before .before .before .before .before .before .if2 .left)) _ (c .before .before .before .before .before .before .before .begins-with3 .ensures) (c .before .before .before .before .before .before .if3 .left)) _ (c .before .before .before .before .begins-with4 .ensures) (c .before .before .before .if4 .left)) _ (c .before .begins-with5 .ensures) (c .if5 .taken)
+
+slice-aggregate-begins-with-6 : tie.Need-slice-aggregate-begins-with-6
+slice-aggregate-begins-with-6 c = search needs
+
+begins-with-requires-6 : tie.Need-begins-with-requires-6
+begins-with-requires-6 c κs = search needs
+
+returns-6 : tie.Need-returns-6
+returns-6 c = trying-last (trying-on (trying-on (trying-on (trying-on (trying-on (trying-start (now (c .before .before .before .before .before .before .before .before .before .before .before .before .before .before .before .before .before .before .args .line))) _ (c .before .before .before .before .before .before .before .before .before .before .before .before .before .before .before .begins-with .ensures) (c .before .before .before .before .before .before .before .before .before .before .before .before .before .before .if1 .left)) _ (c .before .before .before .before .before .before .before .before .before .before .before .before .begins-with2 .ensures) (c .before .before .before .before .before .before .before .before .before .before .before .if2 .left)) _ (c .before .before .before .before .before .before .before .before .before .begins-with3 .ensures) (c .before .before .before .before .before .before .before .before .if3 .left)) _ (c .before .before .before .before .before .before .begins-with4 .ensures) (c .before .before .before .before .before .if4 .left)) _ (c .before .before .before .begins-with5 .ensures) (c .before .before .if5 .left)) _ (c .begins-with6 .ensures)
 
 pub is-heading-spec : {M : Type 1} → statement M
 is-heading-spec =
@@ -67,4 +76,7 @@ is-heading-spec =
     returns-4
     slice-aggregate-begins-with-5
     begins-with-requires-5
-    returns-5)
+    returns-5
+    slice-aggregate-begins-with-6
+    begins-with-requires-6
+    returns-6)

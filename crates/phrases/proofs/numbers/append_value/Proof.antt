@@ -4,7 +4,7 @@ use mathlib.Core.Path.{ap}
 use Rattle.text_buffer.proofs.Promises.{appends-same, one, more, appends-number}
 use Rattle.text_buffer.specs.Text.{bytesOf}
 use Rattle.text_buffer.specs.Decimal.{decimal}
-use Rattle.phrases.specs.Numbers.{hexText, significant, valueText}
+use Rattle.phrases.specs.Numbers.{hexText, significant, otherReading, valueText}
 use Rattle.phrases.proofs.Numbering.{spelt}
 use Rattle.phrases.proofs.numbers.append_value.Statement.{statement}
 use Rattle.phrases.proofs.numbers.append_value.Tie as tie
@@ -18,6 +18,15 @@ slice-aggregate-append c = search needs
 append-requires : tie.Need-append-requires
 append-requires c κs = search needs
 
+append-other-reading-requires : tie.Need-append-other-reading-requires
+append-other-reading-requires c κs = search needs
+
+slice-aggregate-append-2 : tie.Need-slice-aggregate-append-2
+slice-aggregate-append-2 c = search needs
+
+append-requires-2 : tie.Need-append-requires-2
+append-requires-2 c κs = search needs
+
 hex-requires : tie.Need-hex-requires
 hex-requires c κs = search needs
 
@@ -30,18 +39,23 @@ slice-aggregate-append-significant c = search needs
 append-significant-requires : tie.Need-append-significant-requires
 append-significant-requires c κs = search needs
 
-slice-aggregate-append-2 : tie.Need-slice-aggregate-append-2
-slice-aggregate-append-2 c = search needs
+slice-aggregate-append-3 : tie.Need-slice-aggregate-append-3
+slice-aggregate-append-3 c = search needs
 
-append-requires-2 : tie.Need-append-requires-2
-append-requires-2 c κs = search needs
+append-requires-3 : tie.Need-append-requires-3
+append-requires-3 c κs = search needs
 
 same-length : tie.Need-same-length
 same-length c = search needs
 
 returns : tie.Need-returns
 unfolding valueText
-returns c = let a = c .before .before .before .before .before .before .before .before .before .before .before .before .before .before .before .before .before .before .before .before .before .before .args in (c .before .before .append2 .ensures .0, (more (more (more (one (decimal (a .value)) (appends-number (a .value) (c .before .before .before .before .before .before .before .before .before .before .before .before .before .before .before .before .before .before .before .append-number .ensures .1))) (bytesOf " (0x") (c .before .before .before .before .before .before .before .before .before .before .before .before .before .before .append .ensures .1)) (significant (hexText (a .value))) (appends-same _ _ (ap significant (spelt (a .value) _ _ (c .before .before .before .before .before .before .before .before .before .before .before .before .before .before .before .before .before .before .before .before .before .before .fits .value .fits) (c .before .before .before .before .before .before .before .before .before .before .hex .ensures .1 .0) (c .before .before .before .before .before .before .before .before .before .before .hex .ensures .1 .1))) (c .before .before .before .before .before .before .before .append-significant .ensures))) (bytesOf ")") (c .before .before .append2 .ensures .1)) .text)
+returns c =
+    let v = c .before .before .before .before .before .before .before .before .before .before .before .before .before .before .before .before .before .before .before .before .before .before .before .before .before .before .before .before .before .before .before .args .value in
+    let start = one (decimal v) (appends-number v (c .before .before .before .before .before .before .before .before .before .before .before .before .before .before .before .before .before .before .before .before .before .before .before .before .before .before .before .before .append-number .ensures .1)) in
+    let readings = more (more start (bytesOf " (") (c .before .before .before .before .before .before .before .before .before .before .before .before .before .before .before .before .before .before .before .before .before .before .before .append .ensures .1)) (otherReading v) (c .before .before .before .before .before .before .before .before .before .before .before .before .before .before .before .before .before .before .before .append-other-reading .ensures) in
+    let digits = appends-same _ _ (ap significant (spelt v _ _ (c .before .before .before .before .before .before .before .before .before .before .before .before .before .before .before .before .before .before .before .before .before .before .before .before .before .before .before .before .before .before .before .fits .value .fits) (c .before .before .before .before .before .before .before .before .before .before .hex .ensures .1 .0) (c .before .before .before .before .before .before .before .before .before .before .hex .ensures .1 .1))) (c .before .before .before .before .before .before .before .append-significant .ensures) in
+    (c .before .before .append3 .ensures .0, (more (more (more readings (bytesOf "0x") (c .before .before .before .before .before .before .before .before .before .before .before .before .before .before .append2 .ensures .1)) (significant (hexText v)) digits) (bytesOf ")") (c .before .before .append3 .ensures .1)) .text)
 
 pub append-value-spec : {M : Type 1} → statement M
 append-value-spec =
@@ -50,11 +64,14 @@ append-value-spec =
     append-number-requires
     slice-aggregate-append
     append-requires
+    append-other-reading-requires
+    slice-aggregate-append-2
+    append-requires-2
     hex-requires
     array-share-prefix-figures
     slice-aggregate-append-significant
     append-significant-requires
-    slice-aggregate-append-2
-    append-requires-2
+    slice-aggregate-append-3
+    append-requires-3
     same-length
     returns)

@@ -43,7 +43,7 @@ same-length c = search needs
 
 returns : tie.Need-returns
 unfolding startText
-returns c = let a = c .before .before .before .before .before .before .before .before .before .before .before .before .before .before .before .before .before .before .before .before .before .before .before .before .before .before .before .before .before .args in (c .before .before .append4 .ensures .0, (more (more (more (more (more (one (0x7f ∷ []) (c .before .before .before .before .before .before .before .before .before .before .before .before .before .before .before .before .before .before .before .before .before .before .before .before .before .append .ensures .1)) (bytesOf "TRACE0\nR 1\nstatus 0;tstop::0;tframes:") (c .before .before .before .before .before .before .before .before .before .before .before .before .before .before .before .before .before .before .before .before .append2 .ensures .1)) (hexText (a .frames)) (c .before .before .before .before .before .before .before .before .before .before .before .before .before .before .before .before .append-address .ensures .1)) (bytesOf ":tcreated:") (c .before .before .before .before .before .before .before .before .before .before .before .append3 .ensures .1)) (hexText (a .frames)) (c .before .before .before .before .before .before .before .append-address2 .ensures .1)) (bytesOf "\n") (c .before .before .append4 .ensures .1)) .text)
+returns c = let a = c .before .before .before .before .before .before .before .before .before .before .before .before .before .before .before .before .before .before .before .before .before .before .before .before .before .before .before .before .before .args in (c .before .before .append4 .ensures .0, (more (more (more (more (more (one (0x7f ∷ []) (c .before .before .before .before .before .before .before .before .before .before .before .before .before .before .before .before .before .before .before .before .before .before .before .before .before .append .ensures .1)) (bytesOf "TRACE0\nR 1\nstatus 0;tunknown:0;tframes:") (c .before .before .before .before .before .before .before .before .before .before .before .before .before .before .before .before .before .before .before .before .append2 .ensures .1)) (hexText (a .frames)) (c .before .before .before .before .before .before .before .before .before .before .before .before .before .before .before .before .append-address .ensures .1)) (bytesOf ":tcreated:") (c .before .before .before .before .before .before .before .before .before .before .before .append3 .ensures .1)) (hexText (a .frames)) (c .before .before .before .before .before .before .before .append-address2 .ensures .1)) (bytesOf "\n") (c .before .before .append4 .ensures .1)) .text)
 
 pub append-start-spec : {M : Type 1} → statement M
 append-start-spec =

@@ -1,0 +1,3 @@
+-- The work behind the contracts of src/; other crates cite nothing of it.
+mod Looking
+mod Noting

@@ -1,0 +1,28 @@
+use borrow.Author.Needs.{needs}
+use denote.Ref.{now}
+use native.Mathlib.Omega.{arith}
+use mathlib.Core.Path.{sym}
+use lib.ListN.{List·getD-eq-default}
+use Rattle.collection_notes.proofs.byte_at.Statement.{statement}
+use Rattle.collection_notes.proofs.byte_at.Tie as tie
+
+returns : tie.Need-returns
+returns c = (sym (List·getD-eq-default (now (c .before .before .args .code)) 0 (c .if1 .taken)), omega arith)
+
+shared-slice-read-wide : tie.Need-shared-slice-read-wide
+shared-slice-read-wide c = search needs
+
+wide-requires : tie.Need-wide-requires
+wide-requires c κs = search needs
+
+returns-2 : tie.Need-returns-2
+returns-2 c = (c .wide .ensures .0, omega (arith, c .wide .ensures .1))
+
+pub byte-at-spec : {M : Type 1} → statement M
+byte-at-spec =
+    tie.close
+    (tie.spec
+    returns
+    shared-slice-read-wide
+    wide-requires
+    returns-2)

@@ -1,0 +1,3 @@
+-- The definitions of `expression_bytes`.
+pub mod Expression
+mod Examples

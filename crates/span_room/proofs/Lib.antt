@@ -1,0 +1,3 @@
+-- `Promises` is the page for users of this crate; the other holds the work behind it.
+pub mod Promises
+mod Moving

@@ -1,0 +1,3 @@
+-- The definitions of `span_room`. What is proved of them: proofs/Promises.antt.
+pub mod Room
+mod Examples

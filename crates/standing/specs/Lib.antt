@@ -1,0 +1,3 @@
+-- What `standing` tells of document 01's machine.
+pub mod Seen
+pub mod joining

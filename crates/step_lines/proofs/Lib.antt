@@ -1,0 +1,4 @@
+-- `Promises` is the page for users of this crate; the others hold the work behind it.
+pub mod Steps
+pub mod Columns
+pub mod Promises

@@ -1,0 +1,2 @@
+-- The version of tool and archives.
+pub mod Version
