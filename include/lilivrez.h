@@ -7,7 +7,7 @@
  *     lilivrez_frames.h     liblilivrez_frames.a     lab and desk: the frames that runs have recorded, read back
  *
  * Each archive is whole by itself, and they can be linked together in any order. The rules that the comments speak of
- * are docs/document-01.md of the sources.
+ * are docs/document-01.md of the sources, with the list of amended rules in front of it.
  *
  * What holds of every function of all three, but for those that tell a version:
  *
@@ -56,9 +56,9 @@ extern "C" {
  * The version of these headers. Each archive tells its own (lilivrez_verifier_version, lilivrez_agent_version,
  * lilivrez_frames_version) as LILIVREZ_VERSION_NUMBER does: major * 10000 + minor * 100 + patch.
  */
-#define LILIVREZ_VERSION "0.2.0"
+#define LILIVREZ_VERSION "0.3.0"
 #define LILIVREZ_VERSION_MAJOR 0
-#define LILIVREZ_VERSION_MINOR 2
+#define LILIVREZ_VERSION_MINOR 3
 #define LILIVREZ_VERSION_PATCH 0
 #define LILIVREZ_VERSION_NUMBER (LILIVREZ_VERSION_MAJOR * 10000 + LILIVREZ_VERSION_MINOR * 100 + LILIVREZ_VERSION_PATCH)
 

@@ -483,9 +483,9 @@ uint32_t AGENT(run)(const uint8_t *expression, size_t length, const uint64_t *re
         case 0x06: if (*top == 0) REFUSE(17); TWO_TO_ONE(a / b); break;
         case 0x07: if (*top == 0) REFUSE(17); TWO_TO_ONE(remainder_of(a, b)); break;
         case 0x08: if (*top == 0) REFUSE(17); TWO_TO_ONE(a % b); break;
-        case 0x09: TWO_TO_ONE(a << b % 64); break;
-        case 0x0a: TWO_TO_ONE((uint64_t)((int64_t)a >> b % 64)); break;
-        case 0x0b: TWO_TO_ONE(a >> b % 64); break;
+        case 0x09: TWO_TO_ONE(b < 64 ? a << b : 0); break;
+        case 0x0a: TWO_TO_ONE((uint64_t)((int64_t)a >> (b < 64 ? b : 63))); break;
+        case 0x0b: TWO_TO_ONE(b < 64 ? a >> b : 0); break;
         case 0x0c: TRY(record_range(&t, spans, top[-1], top[0])); top -= 2; pc += 1; break;
         case 0x0d: TRY(record_range(&t, spans, top[0], pc[1])); pc += 2; break;
         case 0x0e: *top = *top == 0; pc += 1; break;

@@ -145,6 +145,7 @@ void make_run(struct expression *e, int which)
 {
     static const char *const names[RUN_COUNT] = {
         "arithmetic: dup, add, const8, mul",
+        "shifts: lsh, rsh_signed, rsh_unsigned",
         "division: div and rem, signed and unsigned",
         "division of numbers of 63 bits",
         "jumps: if_goto taken or not, goto",
@@ -156,6 +157,7 @@ void make_run(struct expression *e, int which)
     start(e, names[which]);
     switch (which) {
     case ARITHMETIC: repeat(e, "2203", "2802220704"); break;
+    case SHIFTS: repeat(e, "259abcdef012345678", "28220509220c0a22020b22400a11"); break; // by 5, 12, 2 and 64
     case DIVISION: repeat(e, "237abc", "220105220106237fff07237fff08"); break;
     case LONG_DIVISION: repeat(e, "257abcdef012345678", "220105220106257fffffffffffffff07257fffffffffffffff08"); break;
     case JUMPS: make_jumps(e); break;

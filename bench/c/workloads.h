@@ -37,7 +37,7 @@ size_t read_hits(const char *path, struct expression hits[MOST_HITS]);
 extern struct scene scene;
 void make_scene(void);
 
-enum { ARITHMETIC, DIVISION, LONG_DIVISION, JUMPS, REF64, TRACE_QUICK, TRACENZ, CONDITION, COLLECTION, RUN_COUNT };
+enum { ARITHMETIC, SHIFTS, DIVISION, LONG_DIVISION, JUMPS, REF64, TRACE_QUICK, TRACENZ, CONDITION, COLLECTION, RUN_COUNT };
 void make_run(struct expression *e, int which);
 
 enum { QUICK_TIMES = 100 };

@@ -7,7 +7,7 @@ use std::path::Path;
 use std::process::ExitCode;
 
 const HELP: &str = "\
-evaluator: evaluates agent expressions as document 01 says
+evaluator: evaluates agent expressions as document 01, as amended, says
 
   evaluator verify HEX           prints what the verifier answers for the
                                  expression: `accepted COUNT HEIGHT WALK` or

@@ -1,7 +1,8 @@
 //! The operators on 64-bit words: the GDB manual's "Bytecode Descriptions", and
-//! document 01, "Meanings the manual leaves open", where the manual is silent.
-//! All is reckoned in 128 bits, which no result here exceeds; `word` brings it
-//! back to 64. This module knows only isa.
+//! document 01, "Meanings the manual leaves open", where the manual is silent,
+//! with document 02's M-100 for the shifts. Numbers are reckoned in 128 bits,
+//! which no result here exceeds, and `word` brings them back to 64. This module
+//! knows only isa.
 
 use crate::isa;
 
@@ -41,10 +42,10 @@ pub fn binary(opcode: u8, a: u64, b: u64) -> Result<u64, u8> {
         isa::DIV_UNSIGNED => divide(unsigned(a), unsigned(b))?.quotient,
         isa::REM_SIGNED => divide(signed(a), signed(b))?.remainder,
         isa::REM_UNSIGNED => divide(unsigned(a), unsigned(b))?.remainder,
-        isa::LSH => unsigned(a) * shifts(b),
+        isa::LSH => shifted(a, b, |a| unsigned(a) * 2),
         // Rounding down is "inserting copies of the top bit at the high end".
-        isa::RSH_SIGNED => signed(a).div_euclid(shifts(b)),
-        isa::RSH_UNSIGNED => unsigned(a).div_euclid(shifts(b)),
+        isa::RSH_SIGNED => shifted(a, b, |a| signed(a).div_euclid(2)),
+        isa::RSH_UNSIGNED => shifted(a, b, |a| unsigned(a) / 2),
         isa::BIT_AND => unsigned(a & b),
         isa::BIT_OR => unsigned(a | b),
         isa::BIT_XOR => unsigned(a ^ b),
@@ -73,9 +74,17 @@ fn divide(a: i128, b: i128) -> Result<Division, u8> {
     })
 }
 
-/// 2 to the number of places: "A shift uses its count modulo 64."
-fn shifts(count: u64) -> i128 {
-    1 << (count % 64)
+/// Shifts by one bit, as often as the count says: M-100, "names no limit". Where
+/// one of them changes nothing, no later one does.
+fn shifted(mut a: u64, count: u64, by_one: fn(u64) -> i128) -> i128 {
+    for _ in 0..count {
+        let before = a;
+        a = word(by_one(a));
+        if a == before {
+            break;
+        }
+    }
+    unsigned(a)
 }
 
 /// "if it is zero, push the value one; otherwise, push the value zero."
@@ -125,10 +134,26 @@ mod tests {
         assert_eq!(binary(isa::DIV_SIGNED, LEAST, MINUS_1), Ok(LEAST));
         assert_eq!(binary(isa::REM_SIGNED, LEAST, MINUS_1), Ok(0));
         assert_eq!(binary(isa::DIV_SIGNED, 1, 0), Err(17));
-        assert_eq!(binary(isa::LSH, 3, 64), Ok(3));
-        assert_eq!(binary(isa::LSH, 3, 65), Ok(6));
-        assert_eq!(binary(isa::RSH_SIGNED, LEAST, 127), Ok(MINUS_1));
         assert_eq!((zero_ext(0, 7), zero_ext(64, 7), ext(64, 7)), (0, 7, 7));
+    }
+
+    /// M-100: "63, 64, 65 and 2^64 − 1", and no copy of the word at 64.
+    #[test]
+    fn shifts_by_64_and_more() {
+        let minus_3 = 0_u64.wrapping_sub(3);
+        for (opcode, a, by_63, by_more) in [
+            (isa::LSH, 3, LEAST, 0),
+            (isa::LSH, minus_3, LEAST, 0),
+            (isa::RSH_SIGNED, 3, 0, 0),
+            (isa::RSH_SIGNED, minus_3, MINUS_1, MINUS_1),
+            (isa::RSH_UNSIGNED, 3, 0, 0),
+            (isa::RSH_UNSIGNED, minus_3, 1, 0),
+        ] {
+            assert_eq!(binary(opcode, a, 63), Ok(by_63));
+            for count in [64, 65, 127, 128, 1 << 32, LEAST, MINUS_1] {
+                assert_eq!(binary(opcode, a, count), Ok(by_more), "{a:x} by {count}");
+            }
+        }
     }
 
     #[test]
@@ -144,7 +169,7 @@ mod tests {
     /// The same by the operations that the machine has for 64 bits.
     fn by_machine(opcode: u8, a: u64, b: u64) -> Option<u64> {
         let (i, j) = (a as i64, b as i64);
-        let count = b as u32;
+        let count = b.min(64) as u32;
         Some(match opcode {
             isa::ADD => a.wrapping_add(b),
             isa::SUB => a.wrapping_sub(b),
@@ -154,9 +179,9 @@ mod tests {
             isa::DIV_UNSIGNED => a.checked_div(b)?,
             isa::REM_SIGNED => i.wrapping_rem(j) as u64,
             isa::REM_UNSIGNED => a.checked_rem(b)?,
-            isa::LSH => a.wrapping_shl(count),
-            isa::RSH_SIGNED => i.wrapping_shr(count) as u64,
-            isa::RSH_UNSIGNED => a.wrapping_shr(count),
+            isa::LSH => a.checked_shl(count).unwrap_or(0),
+            isa::RSH_SIGNED => (i >> count.min(63)) as u64,
+            isa::RSH_UNSIGNED => a.checked_shr(count).unwrap_or(0),
             isa::BIT_AND => !(!a | !b),
             isa::BIT_OR => !(!a & !b),
             isa::BIT_XOR => (a | b) - (a & b),
@@ -183,6 +208,9 @@ mod tests {
                     LEAST - 1,
                     0,
                     1,
+                    63,
+                    64,
+                    65,
                     MINUS_1,
                 ])
             });

@@ -2,5 +2,6 @@
 pub mod Promises
 pub mod Signs
 pub mod Shifts
+pub mod ShiftedBits
 pub mod Product
 pub mod Results

@@ -1,12 +1,16 @@
 -- What users of `arithmetic` may cite, each law stated in full and proved where it is named. The contracts of
 -- src/lib.rt are the rest.
+use mathlib.Core.Bool.{cond}
 use mathlib.Core.Path.{_≡_, sym}
-use Prim.Native.Nat.{ℕ, _-_, _^_, _<_, _≤_}
+use Prim.Native.Nat.{ℕ, _+_, _-_, _*_, _/_, _%_, _^_, _<_, _≤_}
 use native.Mathlib.Nat.{lt-of-le-of-lt, div-le-self, mod-le}
 use native.Mathlib.Omega.{arith}
-use Rattle.arithmetic.specs.Words.{signed, word, add, sub, mul, divSigned, divUnsigned, remSigned, remUnsigned, count, lsh, rshSigned, rshUnsigned, bitAnd, bitOr, bitXor, bitNot, logNot, equal, lessSigned, lessUnsigned, signedOf, ext, zeroExt}
+use lib.Dec.{ltb}
+use lib.Signed.{shrZ}
+use Rattle.arithmetic.specs.Words.{signed, word, add, sub, mul, divSigned, divUnsigned, remSigned, remUnsigned, lsh, rshSigned, rshUnsigned, copiesOfTop, bit, bitAnd, bitOr, bitXor, bitNot, logNot, equal, lessSigned, lessUnsigned, signedOf, ext, zeroExt}
 use Rattle.arithmetic.proofs.Results as results
 use Rattle.arithmetic.proofs.Shifts as shifts
+use Rattle.arithmetic.proofs.ShiftedBits as bits
 
 -- ---- every result is a word
 module _ (a b : ℕ) where
@@ -93,9 +97,44 @@ least-quotient = results.least-quotient
 pub least-remainder : remSigned (2 ^ 63) (2 ^ 64 - 1) ≡ 0
 least-remainder = results.least-remainder
 
--- ---- a shift by less than 64 bits is by its operand
-pub count-below : (b : ℕ) → b < 64 → count b ≡ b
-count-below = results.count-below
+-- ---- shifts. M-100: "the manual inserts zero bits, or copies of the top bit, and names no limit": each count
+-- multiplies or divides by its power of 2
+module _ (a b : ℕ) where
+  pub lsh-any : lsh a b ≡ a * 2 ^ b % 2 ^ 64
+  lsh-any = sym (shifts.lsh-any a b)
+
+  pub rsh-signed-any : rshSigned a b ≡ word (shrZ (signed a) (2 ^ b))
+  rsh-signed-any = sym (shifts.signed-any a b)
+
+  pub rsh-unsigned-any : a < 2 ^ 64 → rshUnsigned a b ≡ a / 2 ^ b
+  rsh-unsigned-any h = sym (shifts.unsigned-any a b h)
+
+  -- M-100: "a count of 64 or more gives 0 for lsh and rsh_unsigned, and all copies of the top bit for rsh_signed"
+  pub lsh-out : 64 ≤ b → lsh a b ≡ 0
+  lsh-out k = sym (shifts.lsh-out a b k)
+
+  pub rsh-unsigned-out : a < 2 ^ 64 → 64 ≤ b → rshUnsigned a b ≡ 0
+  rsh-unsigned-out h k = sym (shifts.unsigned-out a b h k)
+
+  pub rsh-signed-out : 64 ≤ b → rshSigned a b ≡ copiesOfTop a
+  rsh-signed-out k = sym (shifts.signed-out a b k)
+
+-- ---- the same, bit by bit, by which a word is determined: each bit that is left comes from b places away
+pub same-bits : (a b : ℕ) → a < 2 ^ 64 → b < 2 ^ 64 → ((i : ℕ) → i < 64 → bit i a ≡ bit i b) → a ≡ b
+same-bits = bits.same-bits
+
+module _ (a b i : ℕ) (h : a < 2 ^ 64) (k : i < 64) where
+  -- "Shift a left by b bits": the b lowest bits are 0
+  pub lsh-bit : bit i (lsh a b) ≡ cond (ltb i b) 0 (bit (i - b) a)
+  lsh-bit = bits.lsh-bit a b i k
+
+  -- "inserting copies of the top bit at the high end"
+  pub rsh-signed-bit : bit i (rshSigned a b) ≡ cond (ltb (b + i) 64) (bit (b + i) a) (bit 63 a)
+  rsh-signed-bit = bits.signed-bit a b i h k
+
+  -- "inserting zero bits at the high end"
+  pub rsh-unsigned-bit : bit i (rshUnsigned a b) ≡ cond (ltb (b + i) 64) (bit (b + i) a) 0
+  rsh-unsigned-bit = bits.unsigned-bit a b i h
 
 -- ---- "from 64 up, no change"; "zero_ext 0 gives 0"
 pub ext-same : (a n : ℕ) → 64 ≤ n → ext a n ≡ a

@@ -2,7 +2,7 @@
 use mathlib.Core.Bool.{Bool, true, false}
 use mathlib.Core.Path.{_≡_, refl}
 use Prim.Native.Nat.{ℕ, _-_, _*_, _%_, _^_, _<_, _≤_}
-use native.Mathlib.Nat.{lt-of-le-of-lt, div-le-self, mod-le, mod-eq-of-lt}
+use native.Mathlib.Nat.{lt-of-le-of-lt, div-le-self, mod-le}
 use native.Mathlib.Decide.{decLt}
 use native.Mathlib.Omega.{arith}
 use lib.Bits.{and-le-l, or-lt, xor-lt}
@@ -10,7 +10,7 @@ use lib.Dec.{eqb, ltb}
 use lib.IntN.{ℤ, pos, negsuc}
 use lib.Signed.{mag, mag-rem, mag-shr, quotZ, remZ, shrZ, ltZ}
 use borrow.Author.Tests.{lt-ltb, le-ltb, lt-leb, le-leb}
-use Rattle.arithmetic.specs.Words.{signed, word, add, sub, divSigned, remSigned, count, lsh, rshSigned, rshUnsigned, bitAnd, bitOr, bitXor, truth, logNot, equal, lessSigned, lessUnsigned, signedOf, ext, zeroExt}
+use Rattle.arithmetic.specs.Words.{signed, word, add, sub, divSigned, remSigned, inserted, lsh, rshSigned, rshUnsigned, bitAnd, bitOr, bitXor, truth, logNot, equal, lessSigned, lessUnsigned, signedOf, ext, zeroExt}
 use Rattle.arithmetic.proofs.Signs.{by-sign, mag-quot}
 use Rattle.arithmetic.proofs.Shifts.{ext-by, ext-same}
 
@@ -34,11 +34,11 @@ module _ (a b : ℕ) (h : a < 2 ^ 64) where
 
   pub rsh-signed-below : rshSigned a b < 2 ^ 64
   unfolding rshSigned
-  rsh-signed-below = word-below (shrZ (signed a) (2 ^ count b)) (omega (arith, mag-shr (signed a) (2 ^ count b), mag-below a h))
+  rsh-signed-below = word-below (shrZ (signed a) (2 ^ inserted b)) (omega (arith, mag-shr (signed a) (2 ^ inserted b), mag-below a h))
 
   pub rsh-unsigned-below : rshUnsigned a b < 2 ^ 64
   unfolding rshUnsigned
-  rsh-unsigned-below = lt-of-le-of-lt (div-le-self a (2 ^ count b)) h
+  rsh-unsigned-below = lt-of-le-of-lt (div-le-self a (2 ^ inserted b)) h
 
   pub bit-and-below : bitAnd a b < 2 ^ 64
   unfolding bitAnd
@@ -70,7 +70,7 @@ ext-below a n h g =
       | yes l ↦
           let k = 64 - n in
           let x = a * 2 ^ k % 2 ^ 64 in
-          rw (← ext-by a n g l) (word-below (shrZ (signed x) (2 ^ k)) (omega (arith, mag-shr (signed x) (2 ^ k), mag-below x (omega arith))))
+          rw (← ext-by a n {k = k} (omega arith) g (omega arith)) (word-below (shrZ (signed x) (2 ^ k)) (omega (arith, mag-shr (signed x) (2 ^ k), mag-below x (omega arith))))
       | no l ↦ rw (← ext-same a n (omega arith)) h
     ]
 
@@ -115,10 +115,6 @@ least-quotient = refl
 pub least-remainder : remSigned (2 ^ 63) (2 ^ 64 - 1) ≡ 0
 unfolding remSigned
 least-remainder = refl
-
-pub count-below : (b : ℕ) → b < 64 → count b ≡ b
-unfolding count
-count-below b h = mod-eq-of-lt h
 
 pub zero-ext-none : (a : ℕ) → zeroExt a 0 ≡ 0
 unfolding zeroExt

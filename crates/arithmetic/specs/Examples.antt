@@ -3,7 +3,7 @@ use mathlib.Core.Bool.{Bool, true, _&&_}
 use mathlib.Core.List.{List, [], _∷_}
 use Prim.Native.Nat.{ℕ, _-_, _^_}
 use lib.Dec.{T, eqb}
-use Rattle.arithmetic.specs.Words.{add, sub, mul, divSigned, divUnsigned, remSigned, remUnsigned, count, lsh, rshSigned, rshUnsigned, bitAnd, bitOr, bitXor, bitNot, logNot, equal, lessSigned, lessUnsigned, ext, zeroExt}
+use Rattle.arithmetic.specs.Words.{add, sub, mul, divSigned, divUnsigned, remSigned, remUnsigned, inserted, lsh, rshSigned, rshUnsigned, bitAnd, bitOr, bitXor, bitNot, logNot, equal, lessSigned, lessUnsigned, ext, zeroExt}
 
 -- the word of −n
 abbrev minus : ℕ → ℕ
@@ -25,10 +25,20 @@ results =
     ∷ (divSigned (minus 7) 2, minus 3) ∷ (divSigned 7 (minus 2), minus 3) ∷ (divSigned (minus 7) (minus 2), 3)
     ∷ (remSigned (minus 7) 2, minus 1) ∷ (remSigned 7 (minus 2), 1) ∷ (remSigned (minus 6) 2, 0)
     ∷ (divUnsigned (minus 7) 2, 2 ^ 63 - 4) ∷ (remUnsigned (minus 7) 2, 1)
-    -- counts 0, 63, 64, 65
-    ∷ (lsh 3 0, 3) ∷ (lsh 3 63, 2 ^ 63) ∷ (lsh 3 64, 3) ∷ (lsh 3 65, 6)
-    ∷ (rshSigned (minus 3) 0, minus 3) ∷ (rshSigned (minus 3) 63, minus 1) ∷ (rshSigned (minus 3) 64, minus 3) ∷ (rshSigned (minus 3) 65, minus 2)
-    ∷ (rshUnsigned (minus 3) 0, minus 3) ∷ (rshUnsigned (minus 3) 63, 1) ∷ (rshUnsigned (minus 3) 64, minus 3) ∷ (rshUnsigned (minus 3) 65, 2 ^ 63 - 2)
+    -- counts 0, 1, and M-100: 63, 64, 65, 2^64 - 1; the top bit 0 and 1
+    ∷ (lsh 3 0, 3) ∷ (lsh 3 1, 6) ∷ (lsh 3 63, 2 ^ 63) ∷ (lsh 3 64, 0) ∷ (lsh 3 65, 0) ∷ (lsh 3 (2 ^ 32), 0) ∷ (lsh 3 (minus 1), 0)
+    ∷ (lsh (minus 3) 0, minus 3) ∷ (lsh (minus 3) 1, minus 6) ∷ (lsh (minus 3) 63, 2 ^ 63) ∷ (lsh (minus 3) 64, 0)
+    ∷ (lsh (minus 3) 65, 0) ∷ (lsh (minus 3) (2 ^ 32), 0) ∷ (lsh (minus 3) (minus 1), 0)
+    ∷ (rshSigned 3 0, 3) ∷ (rshSigned 3 1, 1) ∷ (rshSigned 3 63, 0) ∷ (rshSigned 3 64, 0) ∷ (rshSigned 3 65, 0)
+    ∷ (rshSigned 3 (2 ^ 32), 0) ∷ (rshSigned 3 (minus 1), 0)
+    ∷ (rshSigned (minus 3) 0, minus 3) ∷ (rshSigned (minus 3) 1, minus 2) ∷ (rshSigned (minus 3) 63, minus 1)
+    ∷ (rshSigned (minus 3) 64, minus 1) ∷ (rshSigned (minus 3) 65, minus 1) ∷ (rshSigned (minus 3) (2 ^ 32), minus 1)
+    ∷ (rshSigned (minus 3) (minus 1), minus 1)
+    ∷ (rshUnsigned 3 0, 3) ∷ (rshUnsigned 3 1, 1) ∷ (rshUnsigned 3 63, 0) ∷ (rshUnsigned 3 64, 0)
+    ∷ (rshUnsigned 3 65, 0) ∷ (rshUnsigned 3 (2 ^ 32), 0) ∷ (rshUnsigned 3 (minus 1), 0)
+    ∷ (rshUnsigned (minus 3) 0, minus 3) ∷ (rshUnsigned (minus 3) 1, 2 ^ 63 - 2) ∷ (rshUnsigned (minus 3) 63, 1)
+    ∷ (rshUnsigned (minus 3) 64, 0) ∷ (rshUnsigned (minus 3) 65, 0) ∷ (rshUnsigned (minus 3) (2 ^ 32), 0)
+    ∷ (rshUnsigned (minus 3) (minus 1), 0)
     -- bits and comparisons
     ∷ (bitAnd 12 10, 8) ∷ (bitOr 12 10, 14) ∷ (bitXor 12 10, 6) ∷ (bitNot 0, minus 1) ∷ (logNot 0, 1) ∷ (logNot 2, 0)
     ∷ (equal 7 7, 1) ∷ (equal 7 8, 0) ∷ (lessSigned (minus 1) 1, 1) ∷ (lessSigned 1 (minus 1), 0) ∷ (lessSigned (minus 2) (minus 1), 1)
@@ -39,5 +49,5 @@ results =
     ∷ []
 
 pub examples : T (agree results)
-unfolding results divSigned remSigned count lsh rshSigned rshUnsigned bitAnd bitOr bitXor logNot equal lessSigned lessUnsigned ext zeroExt
+unfolding results divSigned remSigned inserted lsh rshSigned rshUnsigned bitAnd bitOr bitXor logNot equal lessSigned lessUnsigned ext zeroExt
 examples = tt

@@ -1,8 +1,8 @@
 -- What each operator computes on words of 64 bits, the natural numbers below 2 ^ 64: the GDB manual, "Bytecode
--- Descriptions" (source document 003), and document 01, "Meanings the manual leaves open". An operator has its opcode's
--- name; of two operands a is the next-to-top value and b the top.
+-- Descriptions" (source document 003), document 01, "Meanings the manual leaves open", and document 02, M-100. An
+-- operator has its opcode's name; of two operands a is the next-to-top value and b the top.
 use mathlib.Core.Bool.{Bool, cond}
-use Prim.Native.Nat.{ℕ, _+_, _-_, _*_, _/_, _%_, _^_}
+use Prim.Native.Nat.{ℕ, _+_, _-_, _*_, _/_, _%_, _^_, min}
 use lib.Bits as Bits
 use lib.Dec.{eqb, leb, ltb}
 use lib.IntN.{ℤ, pos, subℕ}
@@ -44,21 +44,32 @@ remSigned a b = word (remZ (signed a) (signed b))
 abbrev pub remUnsigned : ℕ → ℕ → ℕ
 remUnsigned a b = a % b
 
--- ---- shifts by b bits
--- "A shift uses its count modulo 64."
-unfoldable pub count : ℕ → ℕ
-count b = b % 64
+-- ---- shifts by b bits. M-100: "For right shifts the manual inserts zero bits, or copies of the top bit, and names no
+-- limit. From now on a count of 64 or more gives 0 for lsh and rsh_unsigned, and all copies of the top bit for
+-- rsh_signed."
+-- so many bits are inserted: a word has 64, and with all of them replaced a greater count changes no more
+unfoldable pub inserted : ℕ → ℕ
+inserted b = min b 64
 
+-- "Shift a left by b bits": the word times the power, modulo 2 ^ 64
 unfoldable pub lsh : ℕ → ℕ → ℕ
-lsh a b = a * 2 ^ count b % 2 ^ 64
+lsh a b = a * 2 ^ inserted b % 2 ^ 64
 
 -- "inserting copies of the top bit at the high end": the signed number divided by the power, rounded down
 unfoldable pub rshSigned : ℕ → ℕ → ℕ
-rshSigned a b = word (shrZ (signed a) (2 ^ count b))
+rshSigned a b = word (shrZ (signed a) (2 ^ inserted b))
 
--- "inserting zero bits at the high end"
+-- "inserting zero bits at the high end": the word divided by the power, rounded down
 unfoldable pub rshUnsigned : ℕ → ℕ → ℕ
-rshUnsigned a b = a / 2 ^ count b
+rshUnsigned a b = a / 2 ^ inserted b
+
+-- what the page says of shifts by 64 bits and more: "all copies of the top bit"
+abbrev pub copiesOfTop : ℕ → ℕ
+copiesOfTop a = cond (ltb a (2 ^ 63)) 0 (2 ^ 64 - 1)
+
+-- and of all shifts, bit by bit: bit i of a word; 0 is the lowest, 63 the top bit
+abbrev pub bit : ℕ → ℕ → ℕ
+bit i a = a / 2 ^ i % 2
 
 -- ---- bit by bit
 unfoldable pub bitAnd : ℕ → ℕ → ℕ

@@ -82,25 +82,16 @@ pub fn rem_unsigned(a: u64, b: u64) -> u64
     a % b
 }
 
-// By how many bits a shift with the operand b shifts. The shifts below take any answer, also 64 and more.
-fn shift_count(b: u64) -> u64
-    ensures { λ r. ⌜ r ≡ Words.count b ⌝ }
-{
-    b % 64
-}
-
 pub fn lsh(a: u64, b: u64) -> u64
     ensures { λ r. ⌜ r ≡ Words.lsh a b ⌝ }
 {
-    let count = shift_count(b);
-    if count < 64 { a << count } else { 0 }
+    if b < 64 { a << b } else { 0 }
 }
 
 pub fn rsh_unsigned(a: u64, b: u64) -> u64
     ensures { λ r. ⌜ r ≡ Words.rshUnsigned a b ⌝ }
 {
-    let count = shift_count(b);
-    if count < 64 { a >> count } else { 0 }
+    if b < 64 { a >> b } else { 0 }
 }
 
 // A shift by less than 64 bits that copies the top bit. It compiles to one arithmetic shift.
@@ -111,16 +102,14 @@ fn shift_copying(a: u64, count: u64) -> u64
     if a < HALF { a >> count } else { !(!a >> count) }
 }
 
+// 63 leaves copies of the top bit only, and so does every greater count.
 pub fn rsh_signed(a: u64, b: u64) -> u64
     ensures { λ r. ⌜ r ≡ Words.rshSigned a b ⌝ }
 {
-    let count = shift_count(b);
-    if count < 64 {
-        shift_copying(a, count)
-    } else if a < HALF {
-        0
+    if b < 64 {
+        shift_copying(a, b)
     } else {
-        0xffff_ffff_ffff_ffff
+        shift_copying(a, 63)
     }
 }
 
@@ -180,7 +169,8 @@ pub fn less_unsigned(a: u64, b: u64) -> u64
     truth(a < b)
 }
 
-// The n low bits are shifted to the top, and back with copies of the topmost.
+// The n low bits are shifted to the top, and back with copies of the topmost. 64 - n by its six low bits, which are all
+// that the machine's shift reads, is one machine instruction less.
 pub fn ext(a: u64, n: u64) -> u64
     requires { ⌜ 0 < n ⌝ }
     ensures { λ r. ⌜ r ≡ Words.ext a n ⌝ }
@@ -188,7 +178,7 @@ pub fn ext(a: u64, n: u64) -> u64
     if 64 <= n {
         return a;
     }
-    let above = 64 - n;
+    let above = sub(0, n) % 64;
     shift_copying(a << above, above)
 }
 

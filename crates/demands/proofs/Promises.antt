@@ -240,6 +240,8 @@ module _ {g : Given} {number : ℕ} {values v b : List ℕ} (tells : RunNumbers 
   -- ==== Demand 2
   -- "The verifier, the runner and the frame reader agree with the GDB manual's bytecode descriptions as document 01
   -- makes them exact": the contracts above, of `verdict`, `ended`, `reading`, `counting`, `walked` and `nextRecord`.
+  -- M-100 amends document 01 there: "a count of 64 or more gives 0 for lsh and rsh_unsigned, and all copies of the top
+  -- bit for rsh_signed" (page of arithmetic: `lsh-out`, `rsh-unsigned-out`, `rsh-signed-out`).
   -- "Each recorded byte is the target's byte at the recorded address": of each record, whether the run completed or was
   -- refused; and byte by byte: a span holds its address, and it is the target's byte there.
   pub recorded-bytes : AllFromTarget (g .target) made

@@ -1,16 +1,17 @@
--- The starred examples of document 01, verified and run: one statement over one list. "Working memory at 4096 holds 41
--- 00 42; tracepoint 7"; no registers, no variable set, a buffer of 32 bytes with none used, and the allowance of an
--- entry without one. The other examples, and many random runs, go through a program.
-use mathlib.Core.List.{List, [], _∷_, map}
+-- The starred examples of document 01, with those that the requests of document 02 add, verified and run: one
+-- statement over one list. "Working memory at 4096 holds 41 00 42; tracepoint 7"; no registers, no variable set, a
+-- buffer of 32 bytes with none used, and the allowance of an entry without one. The other examples, and many random
+-- runs, go through a program.
+use mathlib.Core.List.{List, [], _∷_, _++_, map}
 use mathlib.Core.Path.{_≡_, refl}
 use Prim.Native.Nat.{ℕ, _^_, _-_}
 use lib.ListN.{replicate}
-use Rattle.encoding.specs.BigEndian.{bigEndian}
+use Rattle.encoding.specs.BigEndian.{bigEndian, bigBytes}
 use Rattle.encoding.specs.LittleEndian.{littleBytes}
 use Rattle.isa.specs.Classes.{opcodes, classOf}
 use Rattle.isa.specs.Decode.{operand, picked, needed, left, heightAfter}
 use Rattle.isa.specs.Starts.{startsAtMost, startsFrom, isStart}
-use Rattle.arithmetic.specs.Words.{ext, divSigned}
+use Rattle.arithmetic.specs.Words.{divSigned, inserted, lsh, rshSigned, rshUnsigned, ext}
 use Rattle.refusals.specs.Refusal.{refusal, refusalAfter}
 use Rattle.memory.specs.Spans.{target, endsPast, shareAddress}
 use Rattle.memory.specs.Fetch.{holdsRange, readable, fetchRefusal, fetched, restOf}
@@ -48,6 +49,17 @@ run e =
 abbrev alone : List ℕ
 alone = 0x46 ∷ 0x00 ∷ 0x07 ∷ 0x00 ∷ 0x00 ∷ 0x00 ∷ 0x00 ∷ 0x00 ∷ []
 
+-- the word of −n
+abbrev minus : ℕ → ℕ
+minus n = 2 ^ 64 - n
+
+-- a, b and the shift: a shifted by b bits is r
+abbrev shift : ℕ → ℕ → ℕ → ℕ → List ℕ × (Verdict × (Ended × List ℕ))
+shift op a b r = (
+  0x25 ∷ bigBytes 8 a ++ 0x25 ∷ bigBytes 8 b ++ op ∷ 0x27 ∷ [],
+  (accepted 4 2 4, (completed (top r) 4 unset [], alone)),
+)
+
 unfoldable pub starred : List (List ℕ × (Verdict × (Ended × List ℕ)))
 starred =
     ([], (refused (refusal 1 0), (stopped (refusal 1 0) [], [])))
@@ -84,8 +96,15 @@ starred =
         ),
       ),
     )
+    -- M-100: "Add 63, 64, 65 and 2^64 − 1 to the examples": lsh, rsh_signed, rsh_unsigned, the top bit 0 and 1
+    ∷ shift 0x09 3 63 (2 ^ 63) ∷ shift 0x09 3 64 0 ∷ shift 0x09 3 65 0 ∷ shift 0x09 3 (minus 1) 0
+    ∷ shift 0x09 (minus 3) 63 (2 ^ 63) ∷ shift 0x09 (minus 3) 64 0 ∷ shift 0x09 (minus 3) 65 0 ∷ shift 0x09 (minus 3) (minus 1) 0
+    ∷ shift 0x0a 3 63 0 ∷ shift 0x0a 3 64 0 ∷ shift 0x0a 3 65 0 ∷ shift 0x0a 3 (minus 1) 0
+    ∷ shift 0x0a (minus 3) 63 (minus 1) ∷ shift 0x0a (minus 3) 64 (minus 1) ∷ shift 0x0a (minus 3) 65 (minus 1) ∷ shift 0x0a (minus 3) (minus 1) (minus 1)
+    ∷ shift 0x0b 3 63 0 ∷ shift 0x0b 3 64 0 ∷ shift 0x0b 3 65 0 ∷ shift 0x0b 3 (minus 1) 0
+    ∷ shift 0x0b (minus 3) 63 1 ∷ shift 0x0b (minus 3) 64 0 ∷ shift 0x0b (minus 3) 65 0 ∷ shift 0x0b (minus 3) (minus 1) 0
     ∷ []
 
 pub examples : map (λ (c : List ℕ × (Verdict × (Ended × List ℕ))). run (c .0)) starred ≡ map (λ (c : List ℕ × (Verdict × (Ended × List ℕ))). c .1) starred
-unfolding starred ended inputRefusal leftBytes endsPast shareAddress verdict after1 after2 after3 pass3 heights0 distances0 heightsAlong longer fault3 runsOff atNext atTarget raise arrive fault2 fault1 first isStart startsFrom startsAtMost heightAfter left needed picked operand classOf opcodes bigEndian moves done binaryDone endDone stackAfter variablesAfter offsetAfter binaryWord zeroDivisor divSigned ext rangeMade toZeroMade fitting holdsRange readable fetchRefusal fetched restOf searched encode encodeAll encodeTrailer encodeFrame littleBytes
+unfolding starred ended inputRefusal leftBytes endsPast shareAddress verdict after1 after2 after3 pass3 heights0 distances0 heightsAlong longer fault3 runsOff atNext atTarget raise arrive fault2 fault1 first isStart startsFrom startsAtMost heightAfter left needed picked operand classOf opcodes bigEndian bigBytes moves done binaryDone endDone stackAfter variablesAfter offsetAfter binaryWord zeroDivisor divSigned inserted lsh rshSigned rshUnsigned ext rangeMade toZeroMade fitting holdsRange readable fetchRefusal fetched restOf searched encode encodeAll encodeTrailer encodeFrame littleBytes
 examples = refl

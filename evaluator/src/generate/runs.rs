@@ -35,6 +35,7 @@ pub fn cases(family: impl Fn(u64) -> Random) -> Vec<Case> {
         round(&mut family(14), 32, before::length),
         many(&mut family(15), 200, wild),
         many(&mut family(16), 150, mutated),
+        many(&mut family(18), 90, directed::shift),
     ];
     all.concat()
 }
@@ -166,6 +167,7 @@ pub fn any(random: &mut Random, number: usize) -> Case {
         9 if number % 600 == 21 => long(random),
         9 if number % 240 == 33 => before::length(random, number / 240),
         9 if number % 120 == 45 => directed::full_stack(random),
+        9 if number % 120 == 57 => directed::shift(random),
         _ => general(random),
     }
 }

@@ -46,14 +46,32 @@ fn pairs() -> Vec<Case> {
     cases
 }
 
-/// "A shift uses its count modulo 64."
+pub const SHIFTS: [u8; 3] = [isa::LSH, isa::RSH_SIGNED, isa::RSH_UNSIGNED];
+
+/// Around a word's 64 bits, and counts whose low bits alone would be small.
+pub const COUNTS: [u64; 14] = [
+    0,
+    1,
+    2,
+    62,
+    63,
+    64,
+    65,
+    127,
+    128,
+    1 << 32,
+    (1 << 32) + 1,
+    1 << 63,
+    (1 << 63) + 1,
+    u64::MAX,
+];
+
+/// Each shift of words with the top bit 0 and 1 by each count.
 fn shifts() -> Vec<Case> {
     let mut cases = Vec::new();
-    for opcode in [isa::LSH, isa::RSH_SIGNED, isa::RSH_UNSIGNED] {
+    for opcode in SHIFTS {
         for a in EDGES.into_iter().chain(PATTERNS) {
-            for count in [0, 1, 63, 64, 65, u64::MAX] {
-                cases.push(case(opcode, a, count));
-            }
+            cases.extend(COUNTS.map(|count| case(opcode, a, count)));
         }
     }
     cases

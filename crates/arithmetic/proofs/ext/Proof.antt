@@ -8,8 +8,8 @@ use Rattle.arithmetic.proofs.ext.Tie as tie
 returns : tie.Need-returns
 returns c = ext-same _ _ (omega arith)
 
-sub-above : tie.Need-sub-above
-sub-above c = search needs
+sub-requires : tie.Need-sub-requires
+sub-requires c κs = search needs
 
 shl-shift-copying : tie.Need-shl-shift-copying
 shl-shift-copying c = search needs
@@ -18,8 +18,8 @@ shift-copying-requires : tie.Need-shift-copying-requires
 shift-copying-requires c κs = search needs
 
 returns-2 : tie.Need-returns-2
-returns-2 c = c .shift-copying .ensures ∙ ext-by _ _ (omega arith) (omega arith)
+returns-2 c = let e = c .before .sub .ensures in c .shift-copying .ensures ∙ ext-by _ _ (omega (arith, e)) (omega arith) (omega (arith, e))
 
 pub ext-spec : {M : Type 1} → statement M
 ext-spec =
-    tie.close (tie.spec returns sub-above shl-shift-copying shift-copying-requires returns-2)
+    tie.close (tie.spec returns sub-requires shl-shift-copying shift-copying-requires returns-2)

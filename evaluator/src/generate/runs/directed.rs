@@ -2,6 +2,7 @@
 //! stack, a long walk, conditions of every kind.
 
 use super::{limits, scene};
+use crate::generate::words::{COUNTS, SHIFTS};
 use crate::generate::{operands, shapes};
 use crate::isa::{self, Row};
 use crate::random::Random;
@@ -39,23 +40,35 @@ fn bare(random: &mut Random, expression: Vec<u8>) -> Case {
     case
 }
 
-/// Every operator of one or two cells on registers 0 and 1, `each` times.
+/// An operator on registers 0 and 1, which hold these words.
+fn operator(random: &mut Random, operator: Vec<u8>, words: [u64; 2]) -> Case {
+    let reads = [[isa::REG, 0, 0], [isa::REG, 0, 1]].concat();
+    let expression = [reads, operator, vec![isa::END]].concat();
+    let mut case = bare(random, expression);
+    case.registers = Registers::Listed(words.to_vec());
+    case
+}
+
+/// Every operator of one or two cells, `each` times.
 pub fn operators(random: &mut Random, each: usize) -> Vec<Case> {
     let unary = [isa::LOG_NOT, isa::BIT_NOT, isa::EXT, isa::ZERO_EXT];
     let wanted = |row: &&Row| row.is_binary() || unary.contains(&row.opcode);
     let mut cases = Vec::new();
     for row in isa::TABLE.iter().filter(wanted) {
         for _ in 0..each {
-            let operator = operands::instruction(random, row, Some(2));
-            let reads = [[isa::REG, 0, 0], [isa::REG, 0, 1]].concat();
-            let expression = [reads, operator, vec![isa::END]].concat();
-            let [a, b] = [(); 2].map(|()| edge(random));
-            let mut case = bare(random, expression);
-            case.registers = Registers::Listed(vec![a, b]);
-            cases.push(case);
+            let bytes = operands::instruction(random, row, Some(2));
+            let words = [(); 2].map(|()| edge(random));
+            cases.push(operator(random, bytes, words));
         }
     }
     cases
+}
+
+/// A shift by a count around 64, or a great one.
+pub fn shift(random: &mut Random) -> Case {
+    let opcode = random.choose(&SHIFTS);
+    let words = [random.number(), random.choose(&COUNTS)];
+    operator(random, vec![opcode], words)
 }
 
 /// 62 to 64 cells, each another number, then something that needs few or many

@@ -1,8 +1,9 @@
-//! The examples of document 01 that a run decides, and those of the readings
-//! with the beginnings of their lines of outcome. What an entry
-//! leaves unsaid (steps, a top) was reckoned by hand.
+//! The examples of document 01 that a run decides, those of document 02's M-100,
+//! and those of the readings, with the beginnings of their lines of
+//! outcome. What an entry leaves unsaid (steps, a top) was reckoned by hand.
 
 use crate::hex;
+use crate::isa;
 use crate::runs::{Bytes, Case, Registers};
 use std::collections::BTreeMap;
 
@@ -91,6 +92,31 @@ const LONG: [(&str, &str, usize, &str); 4] = [
     ("22 00", "12", 1_022, "refused 1 0 0"),
 ];
 
+/// M-100, "Add 63, 64, 65 and 2^64 − 1 to the examples": a shift, the word that
+/// is shifted, the outcome by 63 and that by the others.
+const SHIFTS: [(u8, i64, &str, &str); 6] = [
+    (isa::LSH, 3, TOP_BIT, NOTHING),
+    (isa::LSH, -3, TOP_BIT, NOTHING),
+    (isa::RSH_SIGNED, 3, NOTHING, NOTHING),
+    (isa::RSH_SIGNED, -3, ALL_ONES, ALL_ONES),
+    (isa::RSH_UNSIGNED, 3, NOTHING, NOTHING),
+    (isa::RSH_UNSIGNED, -3, "completed 4 1", NOTHING),
+];
+const TOP_BIT: &str = "completed 4 8000000000000000";
+const NOTHING: &str = "completed 4 0";
+const ALL_ONES: &str = "completed 4 ffffffffffffffff";
+
+fn shifts() -> Vec<(Vec<u8>, &'static str)> {
+    let push = |word: u64| [vec![isa::CONST64], word.to_be_bytes().to_vec()].concat();
+    let mut all = Vec::new();
+    for (shift, word, by_63, by_more) in SHIFTS {
+        let by = |count| [push(word as u64), push(count), vec![shift, isa::END]].concat();
+        all.push((by(63), by_63));
+        all.extend([64, 65, u64::MAX].map(|count| (by(count), by_more)));
+    }
+    all
+}
+
 fn read(text: &str) -> Vec<u8> {
     hex::read(text).expect("the examples are hex")
 }
@@ -130,7 +156,9 @@ pub fn examples() -> Vec<(Case, &'static str)> {
         let bytes = [read(front), middle, read("27")].concat();
         (on(bytes), *line)
     });
-    let mut all: Vec<_> = short.chain(long).collect();
+    let shifts = shifts();
+    let shifts = shifts.into_iter().map(|(bytes, line)| (on(bytes), line));
+    let mut all: Vec<_> = short.chain(long).chain(shifts).collect();
     all.extend(limited());
     all
 }
