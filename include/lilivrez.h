@@ -56,9 +56,9 @@ extern "C" {
  * The version of these headers. Each archive tells its own (lilivrez_verifier_version, lilivrez_agent_version,
  * lilivrez_frames_version) as LILIVREZ_VERSION_NUMBER does: major * 10000 + minor * 100 + patch.
  */
-#define LILIVREZ_VERSION "0.4.0"
+#define LILIVREZ_VERSION "0.3.0"
 #define LILIVREZ_VERSION_MAJOR 0
-#define LILIVREZ_VERSION_MINOR 4
+#define LILIVREZ_VERSION_MINOR 3
 #define LILIVREZ_VERSION_PATCH 0
 #define LILIVREZ_VERSION_NUMBER (LILIVREZ_VERSION_MAJOR * 10000 + LILIVREZ_VERSION_MINOR * 100 + LILIVREZ_VERSION_PATCH)
 
@@ -104,7 +104,7 @@ enum lilivrez_refusal {
     LILIVREZ_REFUSED_REGISTERS_MANY = 14,      /* over 256 registers */
     LILIVREZ_REFUSED_BUFFER_BAD = 15,          /* buffer over 65,536 or used beyond its length */
 
-    /* met while running; 19 also by a fetch. With 19 it is told how much could be read (lilivrez_agent.h) */
+    /* met while running; 19 also by a fetch */
     LILIVREZ_REFUSED_ALLOWANCE_SPENT = 16,     /* allowance spent */
     LILIVREZ_REFUSED_DIVISOR_ZERO = 17,        /* divisor zero */
     LILIVREZ_REFUSED_REGISTER_NOT_LENT = 18,   /* register number not lent */

@@ -2,9 +2,6 @@
  * Lilivrez, the agent: runs GDB agent expressions on target memory, and records what they collect.
  * Link with liblilivrez_agent.a; a run verifies by itself. What the caller owes, what holds of every function, and the
  * refusals are in lilivrez.h.
- *
- * The array of a fetch had 2 places up to version 0.3.0, and that of a run 6; now they have more. Compile anew, with
- * LILIVREZ_FETCH_PLACES and LILIVREZ_RUN_PLACES as their sizes: a smaller array is written past its end.
  */
 #ifndef LILIVREZ_AGENT_H
 #define LILIVREZ_AGENT_H
@@ -19,10 +16,6 @@ extern "C" {
  * Target memory is two spans, the program image and the working memory. Each is the address that its first byte has on
  * the target, and the bytes, wherever they are in the caller's memory. They share no address of the target; an empty
  * span shares none with any. A range can be read exactly if all of it lies in one span.
- *
- * How much could be read from an address on is a count: the bytes from there to the end of the span that holds the
- * address, or 0 where none does. It is a count and no address, since the address after a span may be 2^64. Spans that
- * touch are not joined: the bytes of the other span are not counted, even where it begins right after this one.
  */
 enum lilivrez_span {
     LILIVREZ_SPAN_NONE = 0,
@@ -34,16 +27,12 @@ enum lilivrez_span {
 
 /* What lilivrez_fetch stores. */
 enum lilivrez_fetch_place {
-    LILIVREZ_FETCH_SPAN = 0,     /* the span that holds the bytes; none where the fetch is refused or of 0 bytes */
-    LILIVREZ_FETCH_INDEX = 1,    /* the index, in that span's bytes, of the first of them; all `size` bytes from there on are in the span */
-    LILIVREZ_FETCH_READABLE = 2, /* how much could be read from `address` on, whatever `size` is; 0 with 12 and 13 */
-    LILIVREZ_FETCH_PLACES = 3    /* the size of the array */
+    LILIVREZ_FETCH_SPAN = 0,  /* the span that holds the bytes; none where the fetch is refused or of 0 bytes */
+    LILIVREZ_FETCH_INDEX = 1, /* the index, in that span's bytes, of the first of them; all `size` bytes from there on are in the span */
+    LILIVREZ_FETCH_PLACES = 2 /* the size of the array */
 };
 
-/*
- * Finds the `size` bytes at `address`. Returns 0, or the refusal: 12, 13 or 19. How much could be read is stored
- * whether it returns 0 or 19; a `size` of 0 asks for nothing but that.
- */
+/* Finds the `size` bytes at `address`. Returns 0, or the refusal: 12, 13 or 19. */
 uint32_t lilivrez_fetch(uint64_t image_first, const uint8_t *image, size_t image_length,
                         uint64_t work_first, const uint8_t *work, size_t work_length,
                         uint64_t address, uint64_t size,
@@ -56,14 +45,13 @@ enum { LILIVREZ_ALLOWANCE = 1024 };
 
 /* What lilivrez_run stores. */
 enum lilivrez_run_place {
-    LILIVREZ_RUN_OFFSET = 0,   /* refused: the offset, in the expression, of the instruction at fault (0 for 1 and 12 to 15) */
-    LILIVREZ_RUN_STEPS = 1,    /* the instructions completed; 0 where nothing ran */
-    LILIVREZ_RUN_USED = 2,     /* the used length of the buffer: grown by the frame, or as given where the run is refused */
-    LILIVREZ_RUN_CELLS = 3,    /* completed: how many cells of the stack are told: 0, 1, or 2 for two or more */
-    LILIVREZ_RUN_TOP = 4,      /* the top of the stack, where 1 or 2 cells are told */
-    LILIVREZ_RUN_BENEATH = 5,  /* the cell beneath it, where 2 are told */
-    LILIVREZ_RUN_READABLE = 6, /* refused with 19: how much could be read from the range's address on (for tracenz its ADDR); else 0 */
-    LILIVREZ_RUN_PLACES = 7    /* the size of the array */
+    LILIVREZ_RUN_OFFSET = 0,  /* refused: the offset, in the expression, of the instruction at fault (0 for 1 and 12 to 15) */
+    LILIVREZ_RUN_STEPS = 1,   /* the instructions completed; 0 where nothing ran */
+    LILIVREZ_RUN_USED = 2,    /* the used length of the buffer: grown by the frame, or as given where the run is refused */
+    LILIVREZ_RUN_CELLS = 3,   /* completed: how many cells of the stack are told: 0, 1, or 2 for two or more */
+    LILIVREZ_RUN_TOP = 4,     /* the top of the stack, where 1 or 2 cells are told */
+    LILIVREZ_RUN_BENEATH = 5, /* the cell beneath it, where 2 are told */
+    LILIVREZ_RUN_PLACES = 6   /* the size of the array */
 };
 
 /*
@@ -119,10 +107,7 @@ uint32_t lilivrez_agent_version(void);
  *
  *     struct lilivrez_outcome o = lilivrez_run_on(&tracepoint, &target, variables, &trace);
  *     if (o.refusal != LILIVREZ_NOT_REFUSED)
- *         report(o.refusal, o.offset, o.steps, o.readable);
- *
- * Of a refusal 19 the desk wants to know how much was there: the first o.readable bytes of the range could be read. Any
- * other refusal has 0 there, and so has a run that completed.
+ *         report(o.refusal, o.offset, o.steps);
  *
  * A condition is an expression whose value is on top of the stack at the end, and is met where that is not 0. It
  * records nothing, yet every completed run appends a frame, at least a trailer of 8 bytes: on the trace buffer it would
@@ -131,7 +116,7 @@ uint32_t lilivrez_agent_version(void);
  *
  *     struct lilivrez_outcome c = lilivrez_evaluate_on(condition, sizeof condition, &target, variables);
  *     if (c.refusal != LILIVREZ_NOT_REFUSED)
- *         report(c.refusal, c.offset, c.steps, c.readable);
+ *         report(c.refusal, c.offset, c.steps);
  *     else if (c.cells >= 1 && c.top != 0)
  *         o = lilivrez_run_on(&tracepoint, &target, variables, &trace);
  *
@@ -163,7 +148,6 @@ struct lilivrez_fetched {
     enum lilivrez_span span; /* the span that holds them; none where the fetch is refused or of 0 bytes */
     const uint8_t *bytes;    /* the first of them, in that span; NULL where there is none */
     size_t length;           /* how many they are: the size asked for, or 0 where the fetch is refused */
-    uint64_t readable;       /* how much could be read: as LILIVREZ_FETCH_READABLE */
 };
 
 static inline struct lilivrez_fetched lilivrez_fetch_from(const struct lilivrez_target *target, uint64_t address, uint64_t size)
@@ -176,7 +160,6 @@ static inline struct lilivrez_fetched lilivrez_fetch_from(const struct lilivrez_
     f.span = (enum lilivrez_span)out[LILIVREZ_FETCH_SPAN];
     f.bytes = f.span == LILIVREZ_SPAN_NONE ? NULL : (f.span == LILIVREZ_SPAN_IMAGE ? image : work)->bytes + out[LILIVREZ_FETCH_INDEX];
     f.length = f.span == LILIVREZ_SPAN_NONE ? 0 : (size_t)size;
-    f.readable = out[LILIVREZ_FETCH_READABLE];
     return f;
 }
 
@@ -189,13 +172,12 @@ struct lilivrez_tracepoint {
 
 /* What lilivrez_run returns and stores. */
 struct lilivrez_outcome {
-    uint32_t refusal;  /* 0 where the run completed */
-    uint64_t offset;   /* refused: as LILIVREZ_RUN_OFFSET */
-    uint64_t steps;    /* the instructions completed */
-    uint64_t cells;    /* completed: how many cells of the stack are told: 0, 1, or 2 for two or more */
-    uint64_t top;      /* the top of the stack, where 1 or 2 cells are told */
-    uint64_t beneath;  /* the cell beneath it, where 2 are told */
-    uint64_t readable; /* refused with 19: how much could be read, as LILIVREZ_RUN_READABLE */
+    uint32_t refusal; /* 0 where the run completed */
+    uint64_t offset;  /* refused: as LILIVREZ_RUN_OFFSET */
+    uint64_t steps;   /* the instructions completed */
+    uint64_t cells;   /* completed: how many cells of the stack are told: 0, 1, or 2 for two or more */
+    uint64_t top;     /* the top of the stack, where 1 or 2 cells are told */
+    uint64_t beneath; /* the cell beneath it, where 2 are told */
 };
 
 /* lilivrez_run. The used length of the trace grows by the frame, or stays where the run is refused. */
@@ -215,7 +197,6 @@ static inline struct lilivrez_outcome lilivrez_run_on_within(const struct lilivr
     o.cells = out[LILIVREZ_RUN_CELLS];
     o.top = out[LILIVREZ_RUN_TOP];
     o.beneath = out[LILIVREZ_RUN_BENEATH];
-    o.readable = out[LILIVREZ_RUN_READABLE];
     trace->used = (size_t)out[LILIVREZ_RUN_USED];
     return o;
 }

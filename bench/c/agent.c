@@ -276,25 +276,22 @@ static inline uint32_t bad_spans(const struct span spans[2])
 
 uint32_t AGENT(fetch)(uint64_t image_first, const uint8_t *image, size_t image_length,
                       uint64_t work_first, const uint8_t *work, size_t work_length,
-                      uint64_t address, uint64_t size, uint64_t out[3])
+                      uint64_t address, uint64_t size, uint64_t out[2])
 {
     const struct span spans[2] = {{image_first, image, image_length}, {work_first, work, work_length}};
-    out[0] = out[1] = out[2] = 0;
+    out[0] = out[1] = 0;
     uint32_t number = bad_spans(spans);
-    if (number != 0)
+    if (number != 0 || size == 0)
         return number;
     for (int i = 0; i < 2; i++) {
-        uint64_t at = address - spans[i].first; // wraps below the first address, to the length or more
-        if (at < spans[i].length) {
-            out[2] = spans[i].length - at;
-            if (size == 0 || size > out[2])
-                break;
+        uint64_t at = address - spans[i].first;
+        if (address >= spans[i].first && size <= spans[i].length && at <= spans[i].length - size) {
             out[0] = (uint64_t)i + 1;
             out[1] = at;
             return 0;
         }
     }
-    return size == 0 ? 0 : 19;
+    return 19;
 }
 
 // The bytes from `address` to the end of the span that holds it, and how many; 0 where none does.
@@ -309,16 +306,6 @@ static inline const uint8_t *rest(const struct span spans[2], uint64_t address, 
     }
     *count = 0;
     return NULL;
-}
-
-// What `rest` counts, for a refusal 19. Not inlined, and given numbers alone: the loop of a run keeps its registers.
-static __attribute__((noinline)) uint64_t readable(uint64_t image_first, uint64_t image_length,
-                                                   uint64_t work_first, uint64_t work_length, uint64_t address)
-{
-    uint64_t in_image = address - image_first, in_work = address - work_first; // wrap as above
-    if (in_image < image_length)
-        return image_length - in_image;
-    return in_work < work_length ? work_length - in_work : 0;
 }
 
 // ---- records: each writer answers 0 or a refusal's number
@@ -465,9 +452,9 @@ uint32_t AGENT(run)(const uint8_t *expression, size_t length, const uint64_t *re
                     uint64_t image_first, const uint8_t *image, size_t image_length,
                     uint64_t work_first, const uint8_t *work, size_t work_length,
                     uint64_t variables[64], uint8_t *buffer, size_t buffer_length, size_t used,
-                    uint16_t tracepoint, uint64_t allowance, uint64_t out[7])
+                    uint16_t tracepoint, uint64_t allowance, uint64_t out[6])
 {
-    memset(out, 0, 7 * sizeof out[0]);
+    memset(out, 0, 6 * sizeof out[0]);
     out[2] = used;
     struct verdict v = verify(expression, length);
     if (v.number != 0) {
@@ -574,10 +561,6 @@ uint32_t AGENT(run)(const uint8_t *expression, size_t length, const uint64_t *re
 stopped:
     out[0] = (size_t)(pc - expression);
     out[1] = steps;
-    if (number == 19) { // where the size is a cell, the address is beneath it
-        uint64_t address = *pc == 0x0c || *pc == 0x2f ? top[-1] : top[0];
-        out[6] = readable(image_first, image_length, work_first, work_length, address);
-    }
     return number;
 }
 

@@ -11,17 +11,17 @@
 // out: offset, instruction count, greatest height, longest walk
 typedef uint32_t verify_function(const uint8_t *expression, size_t length, uint64_t out[4]);
 
-// out: offset, steps, used length, cells told, top, beneath, with 19 how much could be read
+// out: offset, steps, used length, cells told, top, beneath
 typedef uint32_t run_function(const uint8_t *expression, size_t length, const uint64_t *registers, size_t register_count,
                               uint64_t image_first, const uint8_t *image, size_t image_length,
                               uint64_t work_first, const uint8_t *work, size_t work_length,
                               uint64_t variables[64], uint8_t *buffer, size_t buffer_length, size_t used,
-                              uint16_t tracepoint, uint64_t allowance, uint64_t out[7]);
+                              uint16_t tracepoint, uint64_t allowance, uint64_t out[6]);
 
-// out: span (0 none, 1 image, 2 working memory), index of the first byte in it, how much could be read from `address` on
+// out: span (0 none, 1 image, 2 working memory), index of the first byte in it
 typedef uint32_t fetch_function(uint64_t image_first, const uint8_t *image, size_t image_length,
                                 uint64_t work_first, const uint8_t *work, size_t work_length,
-                                uint64_t address, uint64_t size, uint64_t out[3]);
+                                uint64_t address, uint64_t size, uint64_t out[2]);
 
 // out: offset, tracepoint, kind (1 memory, 2 variable), address or number, length or value, place of the bytes
 typedef uint32_t read_function(const uint8_t *buffer, size_t length, size_t used, uint64_t frame, uint64_t record, uint64_t out[6]);

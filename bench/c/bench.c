@@ -13,7 +13,7 @@
 
 static void in_turn(int agent, const struct task *t)
 {
-    uint64_t out[MOST_PLACES];
+    uint64_t out[6];
     for (size_t i = 0; i < t->member_count; i++)
         perform(agent, t, i, out);
 }
@@ -65,7 +65,7 @@ static double now(void)
 
 static void again(int agent, const struct task *t, size_t member, long repeats)
 {
-    uint64_t out[MOST_PLACES];
+    uint64_t out[6];
     for (long i = 0; i < repeats; i++)
         perform(agent, t, member, out);
 }
@@ -109,7 +109,7 @@ static int stack_agent;
 
 static void stack_body(void)
 {
-    uint64_t out[MOST_PLACES];
+    uint64_t out[6];
     if (stack_task != NULL)
         perform(stack_agent, stack_task, 0, out);
 }
@@ -152,7 +152,7 @@ static void print_stack(void)
 
 static void print_hits(void)
 {
-    uint64_t out[MOST_PLACES];
+    uint64_t out[6];
     double bytes = 0, instructions = 0, steps = 0, assigning = 0, count = (double)hit_count;
     for (size_t i = 0; i < hit_count; i++) {
         bytes += (double)hits[i].length;

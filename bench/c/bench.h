@@ -81,15 +81,11 @@ struct given {
 };
 
 struct given usual(const struct scene *s);
-uint32_t run(int agent, const struct expression *e, struct given g, uint64_t out[7]);
-uint32_t fetch(int agent, const struct scene *s, uint64_t address, uint64_t size, uint64_t out[3]);
+uint32_t run(int agent, const struct expression *e, struct given g, uint64_t out[6]);
+uint32_t fetch(int agent, const struct scene *s, uint64_t address, uint64_t size, uint64_t out[2]);
 
-enum { MOST_PLACES = 7 }; // of `out`, over all functions
-
-void prepare(const struct task *t); // before a task is performed
-
-// One call, or all frames or records.
-uint32_t perform(int agent, const struct task *t, size_t member, uint64_t out[MOST_PLACES]);
+void prepare(const struct task *t);                                            // before a task is performed
+uint32_t perform(int agent, const struct task *t, size_t member, uint64_t out[6]); // one call, or all frames or records
 
 // ---- the answers must be the same: check.c
 

@@ -42,7 +42,7 @@ struct given usual(const struct scene *s)
     return (struct given){s->image.first, s->work.first, 16, sizeof buffers[0], 0, 1024};
 }
 
-uint32_t run(int agent, const struct expression *e, struct given g, uint64_t out[7])
+uint32_t run(int agent, const struct expression *e, struct given g, uint64_t out[6])
 {
     const struct scene *s = e->scene;
     return agents[agent].run(e->bytes, e->length, s->registers, g.registers, g.image_first, s->image.bytes, s->image.length,
@@ -50,7 +50,7 @@ uint32_t run(int agent, const struct expression *e, struct given g, uint64_t out
                              g.allowance, out);
 }
 
-uint32_t fetch(int agent, const struct scene *s, uint64_t address, uint64_t size, uint64_t out[3])
+uint32_t fetch(int agent, const struct scene *s, uint64_t address, uint64_t size, uint64_t out[2])
 {
     return agents[agent].fetch(s->image.first, s->image.bytes, s->image.length, s->work.first, s->work.bytes, s->work.length,
                                address, size, out);
@@ -107,7 +107,7 @@ void prepare(const struct task *t)
             memcpy(variables[a], t->members[0]->scene->variables, sizeof variables[a]);
 }
 
-uint32_t perform(int agent, const struct task *t, size_t member, uint64_t out[MOST_PLACES])
+uint32_t perform(int agent, const struct task *t, size_t member, uint64_t out[6])
 {
     const struct expression *e = t->members[member];
     switch (t->kind) {
@@ -170,7 +170,7 @@ static void add_sized(size_t size, size_t units, const struct task *t, const str
 // What the library tells of it: the instructions of an expression, or those that a run executes.
 static size_t told(const struct task *t)
 {
-    uint64_t out[MOST_PLACES];
+    uint64_t out[6];
     prepare(t);
     perform(OURS, t, 0, out);
     return out[1];

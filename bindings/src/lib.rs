@@ -62,7 +62,7 @@ mod running;
 mod verifying;
 
 #[cfg(feature = "agent")]
-pub use fetching::{fetch, Fetched, NotFetched, Span};
+pub use fetching::{fetch, Span};
 #[cfg(feature = "frames")]
 pub use finding::{locate, Frame, Walker};
 #[cfg(feature = "frames")]

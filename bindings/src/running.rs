@@ -2,7 +2,6 @@
 use core::error::Error;
 use core::fmt;
 
-use crate::fetching::write_readable;
 use crate::library;
 use crate::{Refusal, Span};
 
@@ -42,9 +41,6 @@ pub struct Stopped {
     pub refusal: Refusal,
     pub offset: u64,
     pub steps: u64,
-    /// With `RangeNotReadable`, how many bytes there are from the address of the range (for tracenz its ADDR) to the
-    /// end of the span that holds it, or 0 where no span does; with any other refusal 0.
-    pub readable: u64,
 }
 
 impl fmt::Display for Stopped {
@@ -53,15 +49,13 @@ impl fmt::Display for Stopped {
             refusal,
             offset,
             steps,
-            readable,
         } = self;
         let number = refusal.number();
         let plural = if *steps == 1 { "" } else { "s" };
         write!(
             f,
             "refused {number} at offset {offset} after {steps} step{plural}: {refusal}"
-        )?;
-        write_readable(f, *refusal, *readable)
+        )
     }
 }
 
@@ -79,19 +73,18 @@ pub fn run(
     tracepoint: u16,
     allowance: u64,
 ) -> Result<Completed, Stopped> {
-    let mut out = [0; 7];
+    let mut out = [0; 6];
     let allowance = Some(allowance);
     let number = library::run(
         expression, target, variables, buffer, tracepoint, allowance, &mut out,
     );
-    let [offset, steps, used, cells, top, beneath, readable] = out;
+    let [offset, steps, used, cells, top, beneath] = out;
     buffer.used = used as usize;
     match Refusal::of(number) {
         Some(refusal) => Err(Stopped {
             refusal,
             offset,
             steps,
-            readable,
         }),
         None => Ok(Completed {
             value: value_of(cells, top, beneath),

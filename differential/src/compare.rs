@@ -2,7 +2,6 @@
 
 use crate::shrink;
 use evaluator::hex;
-use evaluator::memory;
 use evaluator::random::Random;
 use std::collections::BTreeMap;
 use std::fmt::Write;
@@ -17,35 +16,6 @@ pub struct Entry {
     pub refusals: &'static [u32],
     /// What an answer without a refusal is, for the table.
     pub sort: fn(&[u64]) -> &'static str,
-}
-
-/// The name of the place that tells how much could be read.
-pub const READABLE: &str = "readable";
-
-/// The sort of refusal 19 where some bytes could be read, for the table; any other refusal has an empty one.
-const SOME: &str = "the same, but its first bytes can be";
-const NOT_READABLE: u32 = memory::NOT_READABLE as u32;
-
-impl Entry {
-    fn readable(&self) -> Option<usize> {
-        self.places.iter().position(|name| *name == READABLE)
-    }
-
-    /// The refusals that must be seen, each with its sort.
-    pub fn refused(&self) -> impl Iterator<Item = (u32, &'static str)> {
-        let some = self.readable().map(|_| (NOT_READABLE, SOME));
-        self.refusals.iter().map(|number| (*number, "")).chain(some)
-    }
-
-    /// The refusal, or 0, and its sort.
-    fn outcome(&self, answer: &Answer) -> (u32, &'static str) {
-        let readable = self.readable().map_or(0, |place| answer.out[place]);
-        match answer.number {
-            0 => (0, (self.sort)(&answer.out)),
-            number if readable > 0 => (number, SOME),
-            number => (number, ""),
-        }
-    }
 }
 
 /// All that an entry answers and leaves behind.
@@ -83,10 +53,6 @@ pub trait Case: Clone + PartialEq {
     /// Makes cases; it may keep something from one to the next.
     type Maker: Default;
 
-    /// Cases compared every time, before the random ones.
-    fn directed() -> Vec<Self> {
-        Vec::new()
-    }
     fn any(maker: &mut Self::Maker, random: &mut Random, number: usize) -> Self;
     /// The case as fields divided by spaces, and back.
     fn line(&self) -> String;
@@ -127,41 +93,29 @@ pub struct Found {
 const MOST_KEPT: usize = 24;
 const MOST_SHRUNK: usize = 3;
 
-impl Found {
-    fn new<C: Case>(cases: usize) -> Found {
-        Found {
-            entries: C::ENTRIES,
-            cases,
-            outcomes: C::ENTRIES.iter().map(|_| BTreeMap::new()).collect(),
-            sizes: C::SIZES,
-            largest: vec![0; C::SIZES.len()],
-            differing: 0,
-            smallest: None,
-        }
-    }
-
-    /// Counts a case that has these answers.
-    fn count<C: Case>(&mut self, case: &C, answers: &[Answer]) {
-        for ((entry, answer), outcomes) in C::ENTRIES.iter().zip(answers).zip(&mut self.outcomes) {
-            *outcomes.entry(entry.outcome(answer)).or_insert(0) += 1;
-        }
-        for (largest, size) in self.largest.iter_mut().zip(case.sizes(answers)) {
-            *largest = size.max(*largest);
-        }
-    }
-}
-
-/// The directed cases, and so many random ones.
 pub fn compare<C: Case>(cases: usize, seed: u64) -> Found {
     let mut random = Random::new(seed);
     let mut maker = C::Maker::default();
     let mut differing: Vec<C> = Vec::new();
-    let directed = C::directed();
-    let mut found = Found::new::<C>(directed.len() + cases);
-    let random = (0..cases).map(|number| C::any(&mut maker, &mut random, number));
-    for case in directed.into_iter().chain(random) {
+    let mut found = Found {
+        entries: C::ENTRIES,
+        cases,
+        outcomes: C::ENTRIES.iter().map(|_| BTreeMap::new()).collect(),
+        sizes: C::SIZES,
+        largest: vec![0; C::SIZES.len()],
+        differing: 0,
+        smallest: None,
+    };
+    for number in 0..cases {
+        let case = C::any(&mut maker, &mut random, number);
         let expected = expected(&case);
-        found.count(&case, &expected);
+        for ((entry, answer), outcomes) in C::ENTRIES.iter().zip(&expected).zip(&mut found.outcomes)
+        {
+            *outcomes.entry(outcome(entry, answer)).or_insert(0) += 1;
+        }
+        for (largest, size) in found.largest.iter_mut().zip(case.sizes(&expected)) {
+            *largest = size.max(*largest);
+        }
         if expected != case.found() {
             found.differing += 1;
             if differing.len() < MOST_KEPT {
@@ -208,6 +162,13 @@ pub fn compare_line<C: Case>(fields: &str) -> Result<Option<String>, String> {
 
 pub fn differs<C: Case>(case: &C) -> bool {
     expected(case) != case.found()
+}
+
+fn outcome(entry: &Entry, answer: &Answer) -> (u32, &'static str) {
+    match answer.number {
+        0 => (0, (entry.sort)(&answer.out)),
+        number => (number, ""),
+    }
 }
 
 /// The case as a line for differential/kept, and both answers.
@@ -269,138 +230,61 @@ mod tests {
     use crate::read::Read;
     use crate::run::Run;
     use crate::verify::Verify;
-    use std::marker::PhantomData;
 
-    /// A library whose answers are wrong.
-    trait Wrong<C>: Clone + PartialEq {
-        fn change(case: &C, answer: &mut Answer);
-    }
-
-    /// A case that is put to such a library.
+    /// The verifier, and a library that does not know rot.
     #[derive(Clone, PartialEq)]
-    struct Put<W, C> {
-        case: C,
-        to: PhantomData<W>,
-    }
+    struct WithoutRot(Verify);
 
-    impl<W: Wrong<C>, C: Case> Put<W, C> {
-        fn new(case: C) -> Put<W, C> {
-            Put {
-                case,
-                to: PhantomData,
-            }
-        }
-    }
+    impl Case for WithoutRot {
+        const KIND: &'static str = Verify::KIND;
+        const ENTRIES: &'static [Entry] = Verify::ENTRIES;
+        type Maker = ();
 
-    impl<W: Wrong<C>, C: Case> Case for Put<W, C> {
-        const KIND: &'static str = C::KIND;
-        const ENTRIES: &'static [Entry] = C::ENTRIES;
-        type Maker = C::Maker;
-
-        fn directed() -> Vec<Put<W, C>> {
-            C::directed().into_iter().map(Put::new).collect()
-        }
-
-        fn any(maker: &mut C::Maker, random: &mut Random, number: usize) -> Put<W, C> {
-            Put::new(C::any(maker, random, number))
+        fn any(_: &mut (), random: &mut Random, number: usize) -> WithoutRot {
+            WithoutRot(Verify::any(&mut (), random, number))
         }
 
         fn line(&self) -> String {
-            self.case.line()
+            self.0.line()
         }
 
-        fn read(line: &str) -> Result<Put<W, C>, String> {
-            C::read(line).map(Put::new)
+        fn read(line: &str) -> Result<WithoutRot, String> {
+            Verify::read(line).map(WithoutRot)
         }
 
         fn expected(&self) -> Vec<Answer> {
-            self.case.expected()
+            self.0.expected()
         }
 
         fn found(&self) -> Vec<Answer> {
-            let mut found = self.case.found();
-            found.iter_mut().for_each(|a| W::change(&self.case, a));
+            let mut found = self.0.found();
+            if self.line().contains("33") && found[0].number == 0 {
+                found[0] = Answer::numbers(2, &[0; 4]);
+            }
             found
         }
 
-        fn smaller(&self) -> impl Iterator<Item = Put<W, C>> {
-            self.case.smaller().map(Put::new)
-        }
-    }
-
-    /// The smallest case found on which the library's answer is wrong, with both answers.
-    fn smallest_wrong<W: Wrong<C>, C: Case>(cases: usize) -> String {
-        let found = compare::<Put<W, C>>(cases, 1);
-        assert!(found.differing > 10, "{}", found.differing);
-        found.smallest.expect("some differ")
-    }
-
-    /// It does not know rot.
-    #[derive(Clone, PartialEq)]
-    struct WithoutRot;
-
-    impl Wrong<Verify> for WithoutRot {
-        fn change(case: &Verify, answer: &mut Answer) {
-            if case.line().contains("33") && answer.number == 0 {
-                *answer = Answer::numbers(2, &[0; 4]);
-            }
+        fn smaller(&self) -> impl Iterator<Item = WithoutRot> {
+            self.0.smaller().map(WithoutRot)
         }
     }
 
     #[test]
     fn a_wrong_answer_is_found_and_made_small() {
+        let found = compare::<WithoutRot>(4_000, 1);
+        assert!(found.differing > 10, "{}", found.differing);
+        let told = found.smallest.expect("some differ");
         let expected = "verify 2733\n  \
                         verify by the evaluator: not refused, offset 0, count 2, height 0, walk 1\n  \
                         verify by the library:   refused 2, offset 0, count 0, height 0, walk 0";
-        assert_eq!(smallest_wrong::<WithoutRot, Verify>(4_000), expected);
-    }
-
-    /// How much could be read goes on into a span that touches.
-    #[derive(Clone, PartialEq)]
-    struct Joining;
-
-    impl Wrong<Fetch> for Joining {
-        fn change(case: &Fetch, answer: &mut Answer) {
-            let readable = &mut answer.out[2];
-            let after = case.address.checked_add(*readable);
-            let mut spans = case.spans.iter();
-            if let Some(other) = spans.find(|span| *readable > 0 && Some(span.first) == after) {
-                *readable += other.bytes.len() as u64;
-            }
-        }
-    }
-
-    /// How much could be read is never told.
-    #[derive(Clone, PartialEq)]
-    struct Silent;
-
-    impl Wrong<Run> for Silent {
-        fn change(_: &Run, answer: &mut Answer) {
-            answer.out[6] = 0;
-        }
-    }
-
-    /// By the directed cases alone.
-    #[test]
-    fn a_wrong_count_is_found_and_made_small() {
-        let joined = "fetch 0 00000000 4 00 0 0\n  \
-                      fetch by the evaluator: not refused, span 0, index 0, readable 4\n  \
-                      fetch by the library:   not refused, span 0, index 0, readable 5";
-        assert_eq!(smallest_wrong::<Joining, Fetch>(0), joined);
-        let refused = "refused 19, offset 9, steps 1, used 0, cells 0, top 0, beneath 0";
-        let silent = format!(
-            "run 2500000000000010001827 - - 1000 00 0 - 0 0 0 default\n  \
-             run by the evaluator: {refused}, readable 1\n  \
-             run by the library:   {refused}, readable 0"
-        );
-        assert_eq!(smallest_wrong::<Silent, Run>(0), silent);
+        assert_eq!(told, expected);
     }
 
     fn lines_are_read_as_they_are_written<C: Case>() {
         let mut random = Random::new(3);
         let mut maker = C::Maker::default();
-        let random = (0..2_000).map(|number| C::any(&mut maker, &mut random, number));
-        for case in C::directed().into_iter().chain(random) {
+        for number in 0..2_000 {
+            let case = C::any(&mut maker, &mut random, number);
             let again = C::read(&case.line());
             assert!(again == Ok(case.clone()), "{}", case.line());
         }

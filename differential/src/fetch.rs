@@ -1,17 +1,17 @@
 //! lilivrez_fetch. A case's line is `F1 BYTES1 F2 BYTES2 ADDRESS SIZE`.
 
-use crate::compare::{Answer, Case, Entry, READABLE, UNSTORED};
+use crate::compare::{Answer, Case, Entry, UNSTORED};
 use crate::fields;
 use crate::shrink::{self, each};
-use evaluator::generate::{self, ends};
-use evaluator::memory::{self, Fetched, Span};
+use evaluator::generate;
+use evaluator::memory::{Memory, Span};
 use evaluator::random::Random;
 use lilivrez::library;
 
 #[derive(Clone, PartialEq)]
 pub struct Fetch {
-    pub spans: [Span; 2],
-    pub address: u64,
+    spans: [Span; 2],
+    address: u64,
     size: u64,
 }
 
@@ -20,23 +20,16 @@ const IMAGE: u64 = 1;
 const WORK: u64 = 2;
 
 impl Fetch {
-    fn new((spans, address, size): ([Span; 2], u64, u64)) -> Fetch {
-        Fetch {
-            spans,
-            address,
-            size,
-        }
-    }
-
-    /// The span that holds these bytes, and their index in it.
-    fn located(&self, bytes: &[u8]) -> [u64; 2] {
+    /// The span that holds the bytes, and their index in it.
+    fn located(&self) -> Result<[u64; 2], u8> {
+        let bytes = Memory::new(&self.spans)?.fetch(self.address, self.size)?;
         if bytes.is_empty() {
-            return [0, 0];
+            return Ok([0, 0]);
         }
         let within = |span: &Span| span.bytes.as_ptr_range().contains(&bytes.as_ptr());
         let number = if within(&self.spans[0]) { IMAGE } else { WORK };
         let first = self.spans[number as usize - 1].first;
-        [number, self.address - first]
+        Ok([number, self.address - first])
     }
 
     /// The range at another address, and the spans with it.
@@ -53,23 +46,23 @@ impl Case for Fetch {
     const KIND: &'static str = "fetch";
     const ENTRIES: &'static [Entry] = &[Entry {
         name: "fetch",
-        places: &["span", "index", READABLE],
+        places: &["span", "index"],
         refusals: &[12, 13, 19],
-        sort: |out| match (out[0], out[2]) {
-            (IMAGE, _) => "in the image",
-            (WORK, _) => "in the working memory",
-            (_, 0) => "no bytes",
-            _ => "no bytes, where some can be read",
+        sort: |out| match out[0] {
+            IMAGE => "in the image",
+            WORK => "in the working memory",
+            _ => "no bytes",
         },
     }];
     type Maker = ();
 
-    fn directed() -> Vec<Fetch> {
-        ends::all_fetches().into_iter().map(Fetch::new).collect()
-    }
-
     fn any(_: &mut (), random: &mut Random, _: usize) -> Fetch {
-        Fetch::new(generate::any_fetch(random))
+        let (spans, address, size) = generate::any_fetch(random);
+        Fetch {
+            spans,
+            address,
+            size,
+        }
     }
 
     fn line(&self) -> String {
@@ -94,16 +87,14 @@ impl Case for Fetch {
     }
 
     fn expected(&self) -> Vec<Answer> {
-        let Fetched { bytes, readable } = memory::fetch(&self.spans, self.address, self.size);
-        let (number, [span, index]) = match bytes {
-            Ok(bytes) => (0, self.located(bytes)),
-            Err(number) => (number, [0, 0]),
-        };
-        vec![Answer::numbers(number.into(), &[span, index, readable])]
+        vec![match self.located() {
+            Ok(out) => Answer::numbers(0, &out),
+            Err(number) => Answer::numbers(number.into(), &[0, 0]),
+        }]
     }
 
     fn found(&self) -> Vec<Answer> {
-        let mut out = [UNSTORED; 3];
+        let mut out = [UNSTORED; 2];
         let spans = self.spans.each_ref().map(|span| lilivrez::Span {
             first: span.first,
             bytes: &span.bytes,

@@ -26,8 +26,7 @@ differential: compares the static libraries with the independent evaluator
 
   differential [--cases N] [--seed S]
       N random cases of each kind (200000), from a generator of numbers that
-      begins with S (1), and before them fetches and runs at each address about
-      the ends of spans. Prints how often each outcome came. Of a difference it
+      begins with S (1). Prints how often each outcome came. Of a difference it
       prints the smallest case found, as a line for differential/kept; those
       lines are compared first. On stderr come up to 3 cases of each kind as
       they were before they were made smaller. One case in 64 is long.
@@ -123,8 +122,7 @@ fn kept() -> Result<bool, String> {
     Ok(same)
 }
 
-/// Whether all answers are the same, each refusal was seen and long cases too; prints the table and each kind's smallest
-/// difference.
+/// Whether all answers are the same, each refusal was seen and long cases too; prints the table and each kind's smallest difference.
 fn random(cases: usize, seed: u64) -> bool {
     let kinds: [fn(usize, u64) -> Found; 5] = [
         compare::<Verify>,
@@ -153,7 +151,9 @@ fn random(cases: usize, seed: u64) -> bool {
     let seen = never.is_empty() && small.is_empty();
     let same = seen && all.iter().all(|found| found.differing == 0);
     if same {
-        println!("the answers for all cases are the same; each refusal and long cases were seen");
+        println!(
+            "the answers for all random cases are the same; each refusal and long cases were seen"
+        );
     }
     same
 }

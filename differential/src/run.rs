@@ -1,10 +1,8 @@
-//! lilivrez_run and, where a case has no allowance, lilivrez_run_default. A case's line is one of
-//! crates/run_vectors/stdin.
+//! lilivrez_run and, where a case has no allowance, lilivrez_run_default. A case's line is one of crates/run_vectors/stdin.
 
-use crate::compare::{Answer, Case, Entry, Size, READABLE, UNSTORED};
+use crate::compare::{Answer, Case, Entry, Size, UNSTORED};
 use crate::long_run;
 use crate::shrink::{self, each};
-use evaluator::generate::ends;
 use evaluator::generate::runs::any;
 use evaluator::machine;
 use evaluator::random::Random;
@@ -29,9 +27,7 @@ impl Case for Run {
     const KIND: &'static str = "run";
     const ENTRIES: &'static [Entry] = &[Entry {
         name: "run",
-        places: &[
-            "offset", "steps", "used", "cells", "top", "beneath", READABLE,
-        ],
+        places: &["offset", "steps", "used", "cells", "top", "beneath"],
         refusals: &[
             1, 2, 3, 4, 5, 6, 7, 8, 9, 10, 11, 12, 13, 14, 15, 16, 17, 18, 19, 20, 21,
         ],
@@ -53,11 +49,6 @@ impl Case for Run {
     ];
     type Maker = ();
 
-    fn directed() -> Vec<Run> {
-        let cases = ends::all_runs().into_iter();
-        cases.map(|case| Run { case }).collect()
-    }
-
     fn any(_: &mut (), random: &mut Random, number: usize) -> Run {
         let case = match long_run::is_long(number) {
             true => long_run::any(random),
@@ -77,17 +68,14 @@ impl Case for Run {
 
     fn expected(&self) -> Vec<Answer> {
         let outcome = machine::run(&self.case.given());
-        let [cells, top, beneath] = match outcome.end {
-            Err(_) | Ok(machine::Answer::None) => [0; 3],
-            Ok(machine::Answer::Top(top)) => [ONE, top, 0],
-            Ok(machine::Answer::Two { top, beneath }) => [TWO, top, beneath],
-        };
-        let (number, offset, readable) = match outcome.end {
-            Err(refused) => (refused.number, refused.offset as u64, refused.readable),
-            Ok(_) => (0, 0, 0),
+        let (number, offset, [cells, top, beneath]) = match outcome.end {
+            Err(refused) => (refused.number, refused.offset, [0; 3]),
+            Ok(machine::Answer::None) => (0, 0, [0; 3]),
+            Ok(machine::Answer::Top(top)) => (0, 0, [ONE, top, 0]),
+            Ok(machine::Answer::Two { top, beneath }) => (0, 0, [TWO, top, beneath]),
         };
         let (steps, used) = (outcome.steps, outcome.used);
-        let out = [offset, steps, used, cells, top, beneath, readable];
+        let out = [offset as u64, steps, used, cells, top, beneath];
         vec![Answer {
             number: number.into(),
             out: out.to_vec(),
@@ -115,7 +103,7 @@ impl Case for Run {
             bytes: &mut bytes[BESIDE..BESIDE + given.buffer.len()],
             used: given.used as usize,
         };
-        let mut out = [UNSTORED; 7];
+        let mut out = [UNSTORED; 6];
         let number = library::run(
             &given.expression,
             &target,

@@ -41,10 +41,9 @@ pub fn table(all: &[Found]) -> String {
 }
 
 fn words((number, sort): &(u32, &'static str)) -> String {
-    match (Refusal::of(*number), *sort) {
-        (None, sort) => sort.to_string(),
-        (Some(refusal), "") => format!("{number:>2} {refusal}"),
-        (Some(_), sort) => format!("{number:>2} {sort}"),
+    match Refusal::of(*number) {
+        None => sort.to_string(),
+        Some(refusal) => format!("{number:>2} {refusal}"),
     }
 }
 
@@ -69,10 +68,9 @@ pub fn too_small(all: &[Found]) -> Vec<String> {
 /// The refusals that an entry can give and did not.
 pub fn never_seen(all: &[Found]) -> Vec<String> {
     let each = entries(all).flat_map(|(entry, outcomes)| {
-        let never = entry
-            .refused()
-            .filter(|refused| !outcomes.contains_key(refused));
-        never.map(|refused| format!("{} of {}", words(&refused), entry.name))
+        let seen = |number: &&u32| !outcomes.contains_key(&(**number, ""));
+        let never = entry.refusals.iter().filter(seen);
+        never.map(|number| format!("{number} of {}", entry.name))
     });
     each.collect()
 }

@@ -168,8 +168,7 @@ mod tests {
             let count = count(&format!("refused {number}"));
             assert!(count >= least, "{}", counts.table());
         }
-        assert!(count("refused 19 some") >= 60, "{}", counts.table());
-        assert_eq!(counts.outcomes.len(), 3 + 21 + 1);
+        assert_eq!(counts.outcomes.len(), 3 + 21);
         for row in &isa::TABLE {
             let count = counts.executing.get(&row.opcode).copied().unwrap_or(0);
             assert!(count >= 100, "{} {count}", row.name);
@@ -184,11 +183,9 @@ mod tests {
             ("w refused 17", 40),
             ("f bytes", 200),
             ("f no bytes", 50),
-            ("f no bytes some", 50),
             ("f refused 12", 50),
             ("f refused 13", 50),
             ("f refused 19", 200),
-            ("f refused 19 some", 200),
             ("r bytes", 100),
             ("r no bytes", 50),
             ("r refused 12", 20),

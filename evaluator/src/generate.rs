@@ -3,7 +3,6 @@
 //! in one leaves the others as they are.
 
 mod edges;
-pub mod ends;
 pub mod examples;
 mod faults;
 mod frames;
@@ -72,7 +71,6 @@ pub fn leaf_cases() -> Vec<Case> {
         frames::cuts(&mut family(32)),
         many(&mut family(33), 150, frames::changed),
         reader::cases(|number| family(60 + number)),
-        ends::fetches(),
     ];
     without_repeats(all.concat())
 }

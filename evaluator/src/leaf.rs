@@ -6,7 +6,7 @@
 //! | case | outcome |
 //! |---|---|
 //! | `w OP A B` | the word, or `refused 11` |
-//! | `f F1 BYTES1 F2 BYTES2 ADDR SIZE` | `BYTES READABLE`, or `refused NUMBER READABLE` with c, d or 13 |
+//! | `f F1 BYTES1 F2 BYTES2 ADDR SIZE` | the bytes, or `refused` with c, d or 13 |
 //! | `r F1 BYTES1 F2 BYTES2 ADDR` | the bytes, or `refused` with c or d |
 //! | `z BYTES SIZE` | `zero N`, `size N`, `end N`: N bytes were looked at |
 //! | `m ROOM ADDR BYTES` | `N PART`: N bytes were written; or `full PART` |
@@ -19,7 +19,7 @@
 use crate::frames::{self, Record, Trailer};
 use crate::hex;
 use crate::isa;
-use crate::memory::{self, Fetched, Memory, Search, Span};
+use crate::memory::{Memory, Search, Span};
 use crate::reader;
 use crate::reads;
 use crate::verify::Refused;
@@ -69,8 +69,6 @@ pub enum Item {
 
 pub enum Answer {
     Word(u64),
-    /// The bytes lent, or the refusal, and how much could be read.
-    Fetched(Result<Vec<u8>, u8>, u64),
     Bytes(Vec<u8>),
     Search(Search),
     /// The free part afterwards, and how many bytes were written.
@@ -122,14 +120,11 @@ impl Case {
                 spans,
                 address,
                 size,
-            } => {
-                let Fetched { bytes, readable } = memory::fetch(spans, *address, *size);
-                Answer::Fetched(bytes.map(<[u8]>::to_vec), readable)
-            }
+            } => Answer::Bytes(Memory::new(spans)?.fetch(*address, *size)?.to_vec()),
             Case::Rest { spans, address } => {
                 let memory = Memory::new(spans)?;
-                let readable = memory.readable(*address);
-                Answer::Bytes(memory.fetch(*address, readable)?.to_vec())
+                let left = memory.left(*address);
+                Answer::Bytes(memory.fetch(*address, left)?.to_vec())
             }
             Case::Search { bytes, size } => Answer::Search(search(bytes, *size)?),
             Case::Write { room, item } => write(*room, item),
@@ -193,12 +188,8 @@ pub fn reads_back(case: &Case, outcome: &Outcome) -> bool {
 /// An outcome as one line of the vectors.
 pub fn line(outcome: &Outcome) -> String {
     match outcome {
-        Err(number) => refused_text(*number),
+        Err(number) => format!("refused {number:x}"),
         Ok(Answer::Word(word)) => format!("{word:x}"),
-        Ok(Answer::Fetched(Ok(bytes), readable)) => format!("{} {readable:x}", hex::field(bytes)),
-        Ok(Answer::Fetched(Err(number), readable)) => {
-            format!("{} {readable:x}", refused_text(*number))
-        }
         Ok(Answer::Bytes(bytes)) => hex::field(bytes),
         Ok(Answer::Search(Search::Zero(looked))) => format!("zero {looked:x}"),
         Ok(Answer::Search(Search::Size(looked))) => format!("size {looked:x}"),
@@ -215,10 +206,6 @@ pub fn line(outcome: &Outcome) -> String {
     }
 }
 
-fn refused_text(number: u8) -> String {
-    format!("refused {number:x}")
-}
-
 /// 23 in a frame that begins at 0.
 fn broken(offset: usize) -> Refused {
     let number = reader::BROKEN_RECORD;
@@ -232,36 +219,13 @@ fn record_text(record: &Record) -> String {
     }
 }
 
-fn bytes_sort(bytes: &[u8]) -> &'static str {
-    match bytes {
-        [] => "no bytes",
-        _ => "bytes",
-    }
-}
-
-fn fetched_sort(bytes: &Result<Vec<u8>, u8>, readable: u64) -> String {
-    match bytes {
-        Err(number) => refused_sort(*number, readable),
-        Ok(bytes) if bytes.is_empty() && readable > 0 => "no bytes some".to_string(),
-        Ok(bytes) => bytes_sort(bytes).to_string(),
-    }
-}
-
-/// The sort of a refusal: 19 where something could be read is one of its own.
-pub fn refused_sort(number: u8, readable: u64) -> String {
-    match readable {
-        0 => format!("refused {number}"),
-        _ => format!("refused {number} some"),
-    }
-}
-
 /// The sort of an outcome, for counting; a refusal's number is decimal here.
 pub fn sort(outcome: &Outcome) -> String {
     let name = match outcome {
         Err(number) => return format!("refused {number}"),
         Ok(Answer::Word(_)) => "word",
-        Ok(Answer::Fetched(bytes, readable)) => return fetched_sort(bytes, *readable),
-        Ok(Answer::Bytes(bytes)) => bytes_sort(bytes),
+        Ok(Answer::Bytes(bytes)) if bytes.is_empty() => "no bytes",
+        Ok(Answer::Bytes(_)) => "bytes",
         Ok(Answer::Search(Search::Zero(_))) => "zero",
         Ok(Answer::Search(Search::Size(_))) => "size",
         Ok(Answer::Search(Search::End(_))) => "end",
@@ -314,15 +278,9 @@ mod tests {
             address: 4096,
             size,
         };
-        expect(fetch(2), "f 0 - 1000 410042 1000 2", "4100 3");
-        expect(fetch(4), "f 0 - 1000 410042 1000 4", "refused 13 3");
-        expect(fetch(0), "f 0 - 1000 410042 1000 0", "- 3");
-        let shared = Case::Fetch {
-            spans: [span(4097, "07"), span(4096, "41 00 42")],
-            address: 4096,
-            size: 1,
-        };
-        expect(shared, "f 1001 07 1000 410042 1000 1", "refused d 0");
+        expect(fetch(2), "f 0 - 1000 410042 1000 2", "4100");
+        expect(fetch(4), "f 0 - 1000 410042 1000 4", "refused 13");
+        expect(fetch(0), "f 0 - 1000 410042 1000 0", "-");
         let rest = |address| Case::Rest {
             spans: spans(),
             address,

@@ -5,8 +5,8 @@
 
 use crate::frames::{self, Record, Trailer};
 use crate::isa::{self, Instruction};
-use crate::memory::{Memory, Search, Span, NOT_READABLE};
-use crate::verify;
+use crate::memory::{Memory, Search, Span};
+use crate::verify::{self, Refused};
 use crate::words;
 
 /// "Registers: 0 to 256 lent numbers."
@@ -19,6 +19,7 @@ const MOST_RECORDED: u64 = 65_535;
 const TOO_MANY_REGISTERS: u8 = 14;
 const ALLOWANCE_SPENT: u8 = 16;
 const NO_REGISTER: u8 = 18;
+const NOT_READABLE: u8 = 19;
 const TOO_LONG: u8 = 20;
 pub const NO_ROOM: u8 = 21;
 
@@ -45,16 +46,6 @@ pub enum Answer {
     None,
     Top(u64),
     Two { top: u64, beneath: u64 },
-}
-
-/// "A refusal returns its number, the offset" (document 01), and 19 M-102's
-/// count.
-#[derive(Clone, Copy, Debug, PartialEq, Eq)]
-pub struct Refused {
-    pub number: u8,
-    pub offset: usize,
-    /// With 19, how much could be read from the address asked; else 0.
-    pub readable: u64,
 }
 
 #[derive(Clone, Debug, PartialEq, Eq)]
@@ -89,19 +80,20 @@ pub fn run(given: &Given) -> Outcome {
         walk: Vec::new(),
     };
     loop {
+        let offset = machine.offset;
         match machine.step() {
             Ok(Goes::Stop) => return machine.completed(),
             Ok(Goes::To(_)) => (),
-            Err(number) => return machine.refused(number),
+            Err(number) => return machine.refused(Refused { number, offset }),
         }
     }
 }
 
 /// "A refusal tried before stepping (here 1 to 15)", in rising number (reading
 /// A-12); the offset is 0 for 12 to 15.
-fn before_stepping(given: &Given) -> Result<Memory<'_>, verify::Refused> {
+fn before_stepping(given: &Given) -> Result<Memory<'_>, Refused> {
     verify::verify(&given.expression)?;
-    let refuse = |number| verify::Refused { number, offset: 0 };
+    let refuse = |number| Refused { number, offset: 0 };
     let memory = Memory::new(&given.spans).map_err(refuse)?;
     if given.registers.len() > MOST_REGISTERS {
         return Err(refuse(TOO_MANY_REGISTERS));
@@ -111,13 +103,9 @@ fn before_stepping(given: &Given) -> Result<Memory<'_>, verify::Refused> {
 }
 
 /// It "ends it, with 0 steps and no records".
-fn never_stepped(given: &Given, refused: verify::Refused) -> Outcome {
+fn never_stepped(given: &Given, refused: Refused) -> Outcome {
     Outcome {
-        end: Err(Refused {
-            number: refused.number,
-            offset: refused.offset,
-            readable: 0,
-        }),
+        end: Err(refused),
         steps: 0,
         records: Vec::new(),
         walk: Vec::new(),
@@ -346,15 +334,11 @@ impl Machine<'_> {
     /// "Variables and used length are as given"; the buffer "holds, from the
     /// old used length on, the records completed before the fault, and every
     /// other byte is unchanged."
-    fn refused(self, number: u8) -> Outcome {
+    fn refused(self, refused: Refused) -> Outcome {
         let records = self.records.iter().map(frames::encode);
         let written = records.collect::<Vec<_>>().concat();
         Outcome {
-            end: Err(Refused {
-                number,
-                offset: self.offset,
-                readable: self.readable(number),
-            }),
+            end: Err(refused),
             variables: self.given.variables,
             buffer: self.written(&written),
             used: self.given.used,
@@ -362,19 +346,6 @@ impl Machine<'_> {
             records: self.records,
             walk: self.walk,
         }
-    }
-
-    /// M-102: "refusal 19 carries that number (for tracenz, from ADDR)". Of the
-    /// cells that a ref or a trace instruction needs the address is the lowest,
-    /// and a refused instruction has taken none of them.
-    fn readable(&self, number: u8) -> u64 {
-        if number != NOT_READABLE {
-            return 0;
-        }
-        let instruction = isa::at_start(&self.given.expression, self.offset);
-        let (needs, _) = instruction.cells();
-        let address = self.stack[self.stack.len() - needs];
-        self.memory.readable(address)
     }
 
     /// The buffer with these bytes from the old used length on.
@@ -497,16 +468,6 @@ mod tests {
         }
     }
 
-    /// 19 tells at most a whole span, any other refusal nothing.
-    fn check_readable(given: &Given, refused: Refused) {
-        let lengths = given.spans.iter().map(|span| span.bytes.len() as u64);
-        let most = match refused.number {
-            19 => lengths.max().unwrap_or(0),
-            _ => 0,
-        };
-        assert!(refused.readable <= most, "{refused:?}");
-    }
-
     fn check(case: &Case) -> Option<u8> {
         let given = case.given();
         let outcome = run(&given);
@@ -518,7 +479,6 @@ mod tests {
                 assert!(outcome.buffer == given.buffer);
                 assert!((2..12).contains(&refused.number) || refused.offset == 0);
             }
-            check_readable(&given, refused);
         }
         check_buffer(&given, &outcome);
         check_records(&given, &outcome);
@@ -641,111 +601,20 @@ mod tests {
         }
     }
 
-    /// The image ends where the working memory begins.
-    fn touch(given: &mut Given) {
-        given.spans[0] = Span {
-            first: 4094,
-            bytes: vec![1, 2],
-        };
-    }
-
     /// A range across two touching spans is not readable.
     #[test]
     fn touching_spans_are_two() {
+        let touch = |given: &mut Given| {
+            given.spans[0] = Span {
+                first: 4094,
+                bytes: vec![1, 2],
+            };
+        };
         let outcome = changed("23 0f ff 18 27", touch);
         assert_eq!(number(&outcome), Some(19));
         let outcome = changed("23 0f fe 18 27", touch);
         assert_eq!(outcome.end, Ok(Answer::Top(0x0201)));
         let outcome = changed("23 0f ff 22 03 2f 27", touch);
         assert_eq!(number(&outcome), Some(19));
-    }
-
-    fn told(outcome: &Outcome) -> Option<(u8, u64)> {
-        let refused = outcome.end.err()?;
-        Some((refused.number, refused.readable))
-    }
-
-    /// M-102: "refusal 19 carries that number (for tracenz, from ADDR)".
-    #[test]
-    fn refusal_19_tells_how_much_could_be_read() {
-        for (expression, readable) in [
-            // ref8 to ref64.
-            ("23 10 03 17 27", 0),
-            ("23 0f fd 17 27", 0),
-            ("23 10 02 18 27", 1),
-            ("23 0f ff 18 27", 1),
-            ("23 0f fd 18 27", 0),
-            ("23 10 00 19 27", 3),
-            ("23 0f fe 19 27", 2),
-            ("23 10 01 1a 27", 2),
-            ("25 ff ff ff ff ff ff ff ff 1a 27", 0),
-            // trace_quick and trace16, then trace and tracenz, whose address is beneath the size.
-            ("23 10 00 0d 04 27", 3),
-            ("23 0f fe 0d 05 27", 2),
-            ("23 10 03 0d 01 27", 0),
-            ("23 10 01 30 ff ff 27", 2),
-            ("23 0f fd 30 00 01 27", 0),
-            ("23 10 00 23 10 02 0c 27", 3),
-            ("23 0f ff 22 02 0c 27", 1),
-            ("22 05 23 10 01 2b 0c 27", 2),
-            ("23 10 02 23 10 00 2f 27", 1),
-            ("23 0f fe 22 03 2f 27", 2),
-            ("23 10 03 22 01 2f 27", 0),
-            // Behind a record and a variable that was set, with cells beneath.
-            ("23 0f fe 0d 02 2d 00 05 23 10 01 19 27", 2),
-        ] {
-            let outcome = changed(expression, touch);
-            assert_eq!(told(&outcome), Some((19, readable)), "{expression}");
-        }
-    }
-
-    /// M-102: a refusal by another number carries none, though a span holds the
-    /// address on the stack.
-    #[test]
-    fn no_other_refusal_tells_how_much_could_be_read() {
-        let full = |given: &mut Given| given.used = given.buffer.len() as u64;
-        let spent = |given: &mut Given| given.allowance = Some(1);
-        let shared = |given: &mut Given| given.spans[0] = given.spans[1].clone();
-        type Change = fn(&mut Given);
-        let cases: [(&str, Change, u8); 8] = [
-            ("23 10 00", |_| (), 11),
-            ("23 10 00 0d 04 27", shared, 13),
-            ("23 10 00 0d 04 27", spent, 16),
-            ("23 10 00 22 00 05 27", |_| (), 17),
-            ("23 10 00 26 00 00 27", |_| (), 18),
-            ("23 10 00 24 00 01 00 00 0c 27", |_| (), 20),
-            ("23 10 00 0d 02 27", full, 21),
-            ("23 10 00 27", full, 21),
-        ];
-        for (expression, change, number) in cases {
-            let outcome = changed(expression, change);
-            assert_eq!(told(&outcome), Some((number, 0)), "{expression}");
-        }
-    }
-
-    /// What is told can be recorded from the address, and a byte more cannot.
-    #[test]
-    fn as_much_as_is_told_can_be_recorded() {
-        let mut refused = 0;
-        for case in generate::ends::all_runs() {
-            let given = case.given();
-            let Some((number, readable)) = told(&run(&given)) else {
-                continue;
-            };
-            assert_eq!(number, 19, "{}", case.line());
-            refused += 1;
-            let record = |size: u64| {
-                let trace = [isa::TRACE16, 0, size as u8, isa::END];
-                let expression = [&given.expression[..9], &trace].concat();
-                told(&run(&Given {
-                    expression,
-                    ..given.clone()
-                }))
-            };
-            assert_eq!(record(readable), None, "{}", case.line());
-            let more = record(readable + 1);
-            assert_eq!(more, Some((19, readable)), "{}", case.line());
-        }
-        assert!(refused > 5_000, "{refused}");
     }
 }

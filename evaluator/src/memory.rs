@@ -1,8 +1,8 @@
 //! Target memory of document 01: "two spans, the program image and the working
 //! memory, each a first address and lent bytes" ("Sizes"), which ranges of it
 //! are readable ("Meanings the manual leaves open") and refusals 12, 13 and 19
-//! ("Running"); and document 02's M-102, how much could be read. Addresses are
-//! numbers of 128 bits here, so none ever wraps. This module knows no other.
+//! ("Running"). Addresses are numbers of 128 bits here, so none ever wraps.
+//! This module knows no other.
 
 use std::ops::Range;
 
@@ -36,29 +36,6 @@ impl Span {
 #[derive(Debug)]
 pub struct Memory<'a> {
     spans: &'a [Span; 2],
-}
-
-/// What a fetch comes to.
-#[derive(Clone, Copy, Debug, PartialEq, Eq)]
-pub struct Fetched<'a> {
-    /// The bytes lent, or the refusal.
-    pub bytes: Result<&'a [u8], u8>,
-    /// As `Memory::readable`, and 0 "with 12 and 13".
-    pub readable: u64,
-}
-
-/// A fetch from any spans: "12 and 13 come first".
-pub fn fetch(spans: &[Span; 2], address: u64, size: u64) -> Fetched<'_> {
-    match Memory::new(spans) {
-        Ok(memory) => Fetched {
-            bytes: memory.fetch(address, size),
-            readable: memory.readable(address),
-        },
-        Err(number) => Fetched {
-            bytes: Err(number),
-            readable: 0,
-        },
-    }
 }
 
 /// What the search for a zero byte comes to. The number is how many bytes were
@@ -111,9 +88,9 @@ impl<'a> Memory<'a> {
         self.spans.iter().find(|span| span.byte(address).is_some())
     }
 
-    /// M-102: "how many bytes lie from the asked address to the end of the span
-    /// that holds it", 0 "if none does", however many are asked for.
-    pub fn readable(&self, address: u64) -> u64 {
+    /// How many bytes there are from the address to its span's end; 0 if no
+    /// span holds it.
+    pub fn left(&self, address: u64) -> u64 {
         match self.holder(address) {
             Some(span) => (span.addresses().end - u128::from(address)) as u64,
             None => 0,
@@ -161,7 +138,7 @@ mod tests {
         let memory = Memory::new(&spans).expect("these spans are sound");
         assert_eq!(memory.fetch(4096, 2), Ok(&[0x41, 0x00][..]));
         assert_eq!(memory.fetch(4096, 4), Err(19));
-        assert_eq!(memory.readable(4096), 3);
+        assert_eq!(memory.left(4096), 3);
         // `23 10 00 22 03 2f 27` records `41 00`.
         assert_eq!(memory.search(4096, 3), Search::Zero(2));
         assert_eq!(memory.fetch(4096, 2), Ok(&[0x41, 0x00][..]));
@@ -187,80 +164,6 @@ mod tests {
             (span(9, &[1, 2, 3]), span(11, &[1]), Some(13)),
         ] {
             assert_eq!(Memory::new(&[one, other]).err(), refused);
-        }
-    }
-
-    fn of_length(first: u64, length: usize) -> Span {
-        span(first, &vec![7; length])
-    }
-
-    /// First address and length of each span, an address, and how much can be
-    /// read from there and from each address behind it; behind 2^64 - 1 is 0.
-    type Counts = ([(u64, usize); 2], u64, &'static [u64]);
-
-    const TOP: u64 = u64::MAX;
-
-    const COUNTS: [Counts; 12] = [
-        // Apart, and one address between them.
-        (
-            [(9, 3), (16, 2)],
-            7,
-            &[0, 0, 3, 2, 1, 0, 0, 0, 0, 2, 1, 0, 0],
-        ),
-        ([(9, 3), (13, 2)], 7, &[0, 0, 3, 2, 1, 0, 2, 1, 0, 0]),
-        // Touching spans are not joined.
-        ([(9, 3), (12, 2)], 7, &[0, 0, 3, 2, 1, 2, 1, 0, 0]),
-        ([(9, 1), (10, 1)], 8, &[0, 1, 1, 0]),
-        // An empty span holds no address: before, at the first, inside, at the end.
-        ([(9, 3), (8, 0)], 7, &[0, 0, 3, 2, 1, 0, 0]),
-        ([(9, 3), (9, 0)], 7, &[0, 0, 3, 2, 1, 0, 0]),
-        ([(9, 3), (10, 0)], 7, &[0, 0, 3, 2, 1, 0, 0]),
-        ([(9, 3), (12, 0)], 7, &[0, 0, 3, 2, 1, 0, 0]),
-        ([(9, 0), (9, 0)], 8, &[0, 0, 0]),
-        // One ends at 2^64; what wraps would join it to the other.
-        ([(TOP - 2, 3), (0, 2)], TOP - 4, &[0, 0, 3, 2, 1, 2, 1, 0]),
-        (
-            [(TOP - 2, 3), (TOP - 4, 2)],
-            TOP - 5,
-            &[0, 2, 1, 3, 2, 1, 0],
-        ),
-        ([(TOP, 1), (TOP, 0)], TOP - 1, &[0, 1, 0]),
-    ];
-
-    /// M-102: with bytes lent, for 0 bytes, and with 19, the same.
-    #[test]
-    fn how_much_can_be_read_from_each_address() {
-        for (layout, from, counts) in COUNTS {
-            let [one, other] = layout.map(|(first, length)| of_length(first, length));
-            for spans in [[one.clone(), other.clone()], [other, one]] {
-                for (place, count) in (0..).zip(counts) {
-                    let address = from.wrapping_add(place);
-                    for size in [0, 1, 2, 3, 4, 1 << 63, u64::MAX] {
-                        let fetched = fetch(&spans, address, size);
-                        assert_eq!(fetched.readable, *count, "{layout:?} {address:x}");
-                        assert_eq!(fetched.bytes.is_ok(), size <= *count);
-                    }
-                }
-            }
-        }
-    }
-
-    /// M-102: 0 "with 12 and 13", though a span holds the address.
-    #[test]
-    fn spans_refused_tell_nothing_readable() {
-        for (one, other, refused) in [
-            (of_length(TOP, 2), of_length(9, 3), 12),
-            (of_length(9, 3), of_length(TOP - 3, 5), 12),
-            (of_length(9, 3), of_length(11, 3), 13),
-            (of_length(9, 3), of_length(9, 3), 13),
-        ] {
-            let spans = [one, other];
-            for address in [8, 9, 10, 11, 12, 13, 14, TOP - 3, TOP, 0] {
-                for size in [0, 1, 9] {
-                    let Fetched { bytes, readable } = fetch(&spans, address, size);
-                    assert_eq!((bytes, readable), (Err(refused), 0));
-                }
-            }
         }
     }
 
@@ -317,20 +220,21 @@ mod tests {
 
     fn compare(spans: &[Span; 2], address: u64, size: u64) -> Result<usize, u8> {
         let model = Model::new(spans);
-        assert_eq!(Memory::new(spans).err(), model.refusal());
-        let Fetched { bytes, readable } = fetch(spans, address, size);
-        let told = format!("{spans:?} {address:x} {size:x}");
+        let memory = Memory::new(spans);
+        assert_eq!(memory.as_ref().err().copied(), model.refusal());
+        let fetched = memory.as_ref().map_err(|number| *number);
+        let fetched = fetched.and_then(|memory| memory.fetch(address, size));
         assert_eq!(
-            bytes.map(<[u8]>::to_vec),
+            fetched.map(<[u8]>::to_vec),
             model.fetch(address, size),
-            "{told}"
+            "{spans:?} {address:x} {size:x}"
         );
-        let rest = model.rest(address);
-        let count = rest.as_ref().map_or(0, Vec::len);
-        assert_eq!(readable, count as u64, "{told}");
-        let all = fetch(spans, address, readable).bytes;
-        assert_eq!(all.map(<[u8]>::to_vec), rest, "{told}");
-        bytes.map(<[u8]>::len)
+        if let Ok(memory) = &memory {
+            let left = memory.left(address);
+            let rest = memory.fetch(address, left).map(<[u8]>::to_vec);
+            assert_eq!(rest, model.rest(address), "{spans:?} {address:x}");
+        }
+        fetched.map(<[u8]>::len)
     }
 
     #[test]

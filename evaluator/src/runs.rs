@@ -13,15 +13,13 @@
 //! | ALLOWANCE | a number, or `default` for the entry without one |
 //!
 //! An outcome: `completed STEPS ANSWER USED VARS SUM HEAD` or `refused NUMBER
-//! OFFSET STEPS READABLE USED VARS SUM HEAD`. ANSWER is `none`, `TOP` or
-//! `TOP,BENEATH`; READABLE is, with 19, how much could be read, and else 0; USED
-//! and VARS are those after the run; SUM is the 64-bit FNV-1a hash of the whole
-//! buffer after it; HEAD is the first up to 32 bytes of the buffer after it, from
-//! the given used length on.
+//! OFFSET STEPS USED VARS SUM HEAD`. ANSWER is `none`, `TOP` or `TOP,BENEATH`;
+//! USED and VARS are those after the run; SUM is the 64-bit FNV-1a hash of the
+//! whole buffer after it; HEAD is the first up to 32 bytes of the buffer after
+//! it, from the given used length on.
 
 use crate::hex;
 use crate::isa;
-use crate::leaf;
 use crate::machine::{Answer, Given, Outcome, Variables};
 use crate::memory::Span;
 use std::collections::BTreeMap;
@@ -268,8 +266,8 @@ pub fn line(outcome: &Outcome, used: u64) -> String {
     let end = match &outcome.end {
         Ok(answer) => format!("completed {steps:x} {}", answer_field(answer)),
         Err(refused) => format!(
-            "refused {:x} {:x} {steps:x} {:x}",
-            refused.number, refused.offset, refused.readable
+            "refused {:x} {:x} {steps:x}",
+            refused.number, refused.offset
         ),
     };
     let free = usize::try_from(used)
@@ -299,7 +297,7 @@ pub fn sort(outcome: &Outcome) -> String {
         Ok(Answer::None) => "completed none".to_string(),
         Ok(Answer::Top(_)) => "completed top".to_string(),
         Ok(Answer::Two { .. }) => "completed two".to_string(),
-        Err(refused) => leaf::refused_sort(refused.number, refused.readable),
+        Err(refused) => format!("refused {}", refused.number),
     }
 }
 
@@ -364,7 +362,7 @@ mod tests {
         assert_eq!(given.buffer, [3, 10, 17]);
         let told = super::line(&run(&given), case.used);
         let sum = fnv1a(&[3, 10, 17]);
-        assert_eq!(told, format!("refused f 0 0 0 4 5=6,3f=1 {sum:x} -"));
+        assert_eq!(told, format!("refused f 0 0 4 5=6,3f=1 {sum:x} -"));
         let sound = line.replace(" 3 4 ", " b 2 ");
         let case = Case::read(&sound).expect("this is a case");
         let outcome = run(&case.given());

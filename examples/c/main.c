@@ -46,19 +46,11 @@ static void verify(const char *what, const uint8_t *expression, size_t length)
                v.greatest_height, v.longest_walk);
 }
 
-/* Behind the words of a refusal: of a range that cannot be read, how much could be. */
-static void print_readable(uint32_t refusal, uint64_t readable)
-{
-    if (refusal == LILIVREZ_REFUSED_RANGE_NOT_READABLE)
-        printf("  bytes that could be read from its start on: %" PRIu64 "\n", readable);
-}
-
 static void print_outcome(struct lilivrez_outcome o)
 {
     if (o.refusal != LILIVREZ_NOT_REFUSED) {
         printf("  refused %" PRIu32 " at offset %" PRIu64 ", steps %" PRIu64 ": %s\n", o.refusal, o.offset, o.steps,
                lilivrez_refusal_words(o.refusal));
-        print_readable(o.refusal, o.readable);
         return;
     }
     printf("  completed, steps %" PRIu64, o.steps);
@@ -93,12 +85,10 @@ static void fetch(const struct unit *u, uint64_t address, uint64_t size)
     struct lilivrez_fetched f = lilivrez_fetch_from(&u->target, address, size);
 
     printf("fetch %" PRIu64 " bytes at %" PRIu64 "\n", size, address);
-    if (f.refusal != LILIVREZ_NOT_REFUSED) {
+    if (f.refusal != LILIVREZ_NOT_REFUSED)
         printf("  refused %" PRIu32 ": %s\n", f.refusal, lilivrez_refusal_words(f.refusal));
-        print_readable(f.refusal, f.readable);
-        return;
-    }
-    print_bytes(f.span == LILIVREZ_SPAN_IMAGE ? "program image" : "working memory", f.bytes, f.length);
+    else
+        print_bytes(f.span == LILIVREZ_SPAN_IMAGE ? "program image" : "working memory", f.bytes, f.length);
 }
 
 /* The lab's part, lilivrez_frames.h. The bytes of a memory record stay in the trace buffer. */

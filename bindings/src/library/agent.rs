@@ -11,7 +11,7 @@ extern "C" {
         work_length: usize,
         address: u64,
         size: u64,
-        out: *mut [u64; 3],
+        out: *mut [u64; 2],
     ) -> u32;
 
     fn lilivrez_run(
@@ -31,7 +31,7 @@ extern "C" {
         used: usize,
         tracepoint: u16,
         allowance: u64,
-        out: *mut [u64; 7],
+        out: *mut [u64; 6],
     ) -> u32;
 
     fn lilivrez_run_default(
@@ -50,7 +50,7 @@ extern "C" {
         buffer_length: usize,
         used: usize,
         tracepoint: u16,
-        out: *mut [u64; 7],
+        out: *mut [u64; 6],
     ) -> u32;
 
     fn lilivrez_agent_version() -> u32;
@@ -61,7 +61,7 @@ pub fn agent_version() -> u32 {
     unsafe { lilivrez_agent_version() }
 }
 
-pub fn fetch([image, work]: [Span; 2], address: u64, size: u64, out: &mut [u64; 3]) -> u32 {
+pub fn fetch([image, work]: [Span; 2], address: u64, size: u64, out: &mut [u64; 2]) -> u32 {
     // SAFETY: each pointer and length are of one slice, and `out` is borrowed by nobody else.
     unsafe {
         lilivrez_fetch(
@@ -90,7 +90,7 @@ pub fn run(
     buffer: &mut TraceBuffer,
     tracepoint: u16,
     allowance: Option<u64>,
-    out: &mut [u64; 7],
+    out: &mut [u64; 6],
 ) -> u32 {
     // What both entries are given, before the allowance that one of them takes.
     macro_rules! call {

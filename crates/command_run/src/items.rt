@@ -4,7 +4,7 @@ use crate::inputs::{INPUTS_ROOM, ReadBy, read_by};
 use crate::outcome::{print_buffer, print_discarded, print_outcome, print_replaced, print_run};
 use crate::sources::{Got, take_file, take_hex};
 use crate::wrong::{part, print_failed, print_fault, print_wrong};
-use command_steps::{print_short, print_steps};
+use command_steps::print_steps;
 use files::{identity, is_standard, save};
 use runner::Outcome;
 use scenario::{BUFFER, IMAGE, Item, LOAD, RUN, SAVE};
@@ -248,33 +248,6 @@ fn print_steps_of<'a>(
     );
 }
 
-// What a refused run asked for, on what it was given.
-fn print_short_of<'a>(
-    code: &[u8],
-    outcome: Outcome,
-    setting: Setting,
-    registers: &[u64],
-    spans: &'a [u8],
-    variables: &[u64; sizes::VARIABLE_COUNT],
-    buffer: &[u8],
-) {
-    match outcome {
-        Outcome::Completed(_, _, _) => {}
-        Outcome::Refused(refusal) => print_short(
-            code,
-            first_registers(registers, setting.registers),
-            setting.image.first,
-            first_bytes(spans, setting.image.len),
-            setting.memory.first,
-            last_bytes(spans, setting.memory.len),
-            variables,
-            buffer,
-            setting.buffer.used,
-            refusal,
-        ),
-    }
-}
-
 // What came of a run, and its steps where they are asked for.
 fn print_told<'a>(
     code: &[u8],
@@ -286,7 +259,6 @@ fn print_told<'a>(
     buffer: &[u8],
 ) {
     print_outcome(code, outcome);
-    print_short_of(code, outcome, setting, registers, spans, variables, buffer);
     print_steps_of(code, setting, registers, spans, variables, buffer);
 }
 

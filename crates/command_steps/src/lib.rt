@@ -1,12 +1,7 @@
-// The listing of a run: where it stands before each of its steps; and what it asked for where it is refused with 19.
-ghost use Rattle.std.specs.Prelude.{◌≡◌, length};
-
+// The listing of a run: where it stands before each of its steps.
 use console_output::print;
 use encoding::put_bytes;
 use isa::Stack;
-use memory::Range;
-use refusals::Refusal;
-use run_lines::shortage::append_short;
 use standing::{Stood, stand};
 use step_lines::append_step;
 
@@ -19,47 +14,8 @@ fn print_line(step: u64, code: &[u8], offset: usize, cells: &[u64], height: usiz
     }
 }
 
-// Where the run stands after so many steps, with its cells. Variables and buffer stay as they are: the steps are done on
-// copies. No run has a longer buffer than is copied.
-fn stand_after<'a>(
-    code: &[u8],
-    registers: &[u64],
-    image_first: u64,
-    image: &'a [u8],
-    work_first: u64,
-    work: &'a [u8],
-    cells: &mut [u64; Stack::DEPTH],
-    variables: &[u64; sizes::VARIABLE_COUNT],
-    buffer: &[u8],
-    used: usize,
-    step: u64,
-) -> Stood
-    requires { length cells.old ≡ 64 }
-    ensures { length cells.new ≡ 64 }
-{
-    let size = buffer.len();
-    if sizes::BUFFER_MOST < size {
-        return Stood::Over;
-    }
-    let mut bytes = [0u8; sizes::BUFFER_MOST];
-    put_bytes(&mut bytes, 0, buffer);
-    let mut values = *variables;
-    stand(
-        code,
-        registers,
-        image_first,
-        image,
-        work_first,
-        work,
-        cells,
-        &mut values,
-        &mut bytes[..size],
-        used,
-        step,
-    )
-}
-
-// Prints where the run stands after so many steps, and answers whether it still stood.
+// Prints where the run stands after so many steps, and answers whether it still stood. Variables and buffer stay as
+// they are: the steps are done on copies.
 fn print_step<'a>(
     code: &[u8],
     registers: &[u64],
@@ -72,8 +28,15 @@ fn print_step<'a>(
     used: usize,
     step: u64,
 ) -> bool {
+    let size = buffer.len();
+    if sizes::BUFFER_MOST < size {
+        return false;
+    }
+    let mut bytes = [0u8; sizes::BUFFER_MOST];
+    put_bytes(&mut bytes, 0, buffer);
+    let mut values = *variables;
     let mut cells = [0u64; Stack::DEPTH];
-    let stood = stand_after(
+    let stood = stand(
         code,
         registers,
         image_first,
@@ -81,60 +44,17 @@ fn print_step<'a>(
         work_first,
         work,
         &mut cells,
-        variables,
-        buffer,
+        &mut values,
+        &mut bytes[..size],
         used,
         step,
     );
     match stood {
         Stood::Over => false,
-        Stood::At(offset, height, _) => {
+        Stood::At(offset, height) => {
             print_line(step, code, offset, &cells, height);
             true
         }
-    }
-}
-
-fn print_range(code: &[u8], refusal: Refusal, range: Range) {
-    let mut lines = [0u8; 200];
-    let end = append_short(&mut lines, 0, code, refusal, range);
-    print(&lines[..end]);
-}
-
-// Prints, for refusal 19, the range that was asked for and how much of it could be read: the instruction asked for it
-// where the run stood after its steps.
-pub fn print_short<'a>(
-    code: &[u8],
-    registers: &[u64],
-    image_first: u64,
-    image: &'a [u8],
-    work_first: u64,
-    work: &'a [u8],
-    variables: &[u64; sizes::VARIABLE_COUNT],
-    buffer: &[u8],
-    used: usize,
-    refusal: Refusal,
-) {
-    if refusal.number != refusals::RANGE_NOT_READABLE {
-        return;
-    }
-    let mut cells = [0u64; Stack::DEPTH];
-    let stood = stand_after(
-        code,
-        registers,
-        image_first,
-        image,
-        work_first,
-        work,
-        &mut cells,
-        variables,
-        buffer,
-        used,
-        refusal.steps,
-    );
-    match stood {
-        Stood::Over => {}
-        Stood::At(_, _, range) => print_range(code, refusal, range),
     }
 }
 

@@ -1,8 +1,8 @@
 -- The demands (docs/demands.md), sentence by sentence, each as a statement that is proved by citing the crates' pages.
 -- What a reader must believe besides is the definitions that are named here: `verdict`, `Walk` and `Accepted`
--- (verdict, isa), `ended` and `StopsShort` (machine), `fetched`, `readable_from`, `target_byte` and `InTarget` (memory),
--- `encode_frame` (frames), `reading`, `counting`, `located`, `walked`, `next_record` and `RecordsFrom` (reader),
--- `RunNumbers` (lilivrez_agent), and this crate's specs/.
+-- (verdict, isa), `ended` (machine), `fetched`, `target_byte` and `InTarget` (memory), `encode_frame` (frames),
+-- `reading`, `counting`, `located`, `walked`, `next_record` and `RecordsFrom` (reader), `RunNumbers` (lilivrez_agent),
+-- and this crate's specs/.
 use mathlib.Core.Bool.{false}
 use mathlib.Core.List.{List, ◌∷◌, ◌++◌}
 use mathlib.Core.Logic.{◌↔◌, ◌≢◌}
@@ -14,11 +14,10 @@ use lib.Dec.{T}
 use Rattle.logic.specs.Tests.{member}
 use Rattle.encoding.specs.Written.{written_at}
 use Rattle.encoding.specs.Ranges.{AllBytes, AllWords}
-use Rattle.refusals.specs.declared.Refusal.{Refusal}
-use Rattle.refusals.specs.Numbers.{allowance_spent, range_not_readable, no_such_record}
+use Rattle.refusals.specs.Numbers.{allowance_spent, no_such_record}
 use Rattle.refusals.specs.Refusal.{refusal}
 use Rattle.memory.specs.Spans.{target}
-use Rattle.memory.specs.Fetch.{fetch_refusal, readable_from, fetch_check, fetched, InTarget, target_byte}
+use Rattle.memory.specs.Fetch.{fetch_refusal, fetched, InTarget, target_byte}
 use Rattle.frames.specs.Record.{Record, memory, encode_all, AllWellFormed}
 use Rattle.frames.specs.declared.Tag.{Tag}
 use Rattle.frames.specs.Trailer.{tag_of}
@@ -27,8 +26,6 @@ use Rattle.verdict.specs.Acceptance.{MostIs}
 use Rattle.verdict.proofs.Promises as verifying
 use Rattle.machine.specs.Given.{Given, given}
 use Rattle.machine.specs.Run.{ended, default_allowance, number_of, steps_of, used_of, variables_of, buffer_of}
-use Rattle.machine.specs.Machine.{no_value}
-use Rattle.machine.specs.Short.{StopsShort}
 use Rattle.machine.specs.Recorded.{AllFromTarget, records_of, frame_of}
 use Rattle.machine.proofs.Promises as machine
 use Rattle.runner.specs.Returned.{Ran}
@@ -42,11 +39,11 @@ use Rattle.reader.proofs.Promises as reader
 use Rattle.version.specs.Version.{version_number}
 use Rattle.lilivrez_verifier.specs.VerdictNumbers as verifier
 use Rattle.lilivrez_agent.specs.Lent.{lent_at, fetch_values}
-use Rattle.lilivrez_agent.specs.RunValues.{places_of, run_values, RunNumbers}
+use Rattle.lilivrez_agent.specs.RunValues.{run_values, RunNumbers}
 use Rattle.lilivrez_frames.specs.FrameValues.{read_number_of, read_values, count_number, count_values, locate_number, locate_values, walk_values, step_number, step_values}
 use Rattle.demands.specs.Entry.{Answers, Exports}
 use Rattle.demands.specs.Refusals.{Entry, numbers_of, Gives}
-use Rattle.demands.specs.Stored.{steps_in, used_in, readable_in, number_told, values_told}
+use Rattle.demands.specs.Stored.{steps_in, used_in, number_told, values_told}
 use Rattle.demands.proofs.Numbers as numbers
 use Rattle.demands.proofs.Leaving as leaving
 use Rattle.demands.proofs.Telling as telling
@@ -68,7 +65,7 @@ use Rattle.lilivrez_frames.proofs.lilivrez_frames_version as lilivrez_frames_ver
 use Rattle.verifier.proofs.verify as verify
 use Rattle.verifier.proofs.verify_noting as verify_noting
 use Rattle.memory.proofs.fetch as fetch
-use Rattle.memory.proofs.check_fetch as check_fetch
+use Rattle.memory.proofs.fetch_refusal as fetch_refusal_of
 use Rattle.runner.proofs.run as run
 use Rattle.runner.proofs.run_default as run_default
 use Rattle.reader.proofs.read as read
@@ -102,7 +99,7 @@ module _ {M : Type 1} where
   pub lilivrez_fetch_answers : Exports M lilivrez_fetch.ended lilivrez_fetch.Symbol.routine
       (λ _ (image-first, (image, (work-first, (work, (address, (size, _)))))) r _. r ≡ fetch_refusal (target image-first image.now work-first work.now) address size)
       (λ _ (image-first, (image, (work-first, (work, (address, (size, _)))))) _ (_, (_, (_, (_, (_, (_, (out, _)))))))
-      . out.now ≡ fetch_values (lent_at (target image-first image.now work-first work.now) address size) (readable_from (target image-first image.now work-first work.now) address))
+      . out.now ≡ fetch_values (lent_at (target image-first image.now work-first work.now) address size))
   lilivrez_fetch_answers = lilivrez_fetch.Met.met
 
   pub lilivrez_run_answers : Answers M lilivrez_run.ended lilivrez_run.Symbol.routine
@@ -166,12 +163,9 @@ module _ {M : Type 1} where
       (λ _ (image-first, (image, (work-first, (work, (address, (size, _)))))) r _. r.now ≡ fetched (target image-first image.now work-first work.now) address size)
   fetch_answers = fetch.Met.met
 
-  -- M-102: "The entry beside the fetch also answers how many bytes lie from the asked address to the end of the span
-  -- that holds it" (page of memory: `readable_image`, `readable_work`, `readable_some`, `readable_refused`,
-  -- `readable_range`)
-  pub check_fetch_answers : Answers M check_fetch.ended check_fetch.Symbol.routine
-      (λ _ (image-first, (image, (work-first, (work, (address, (size, _)))))) r _. r ≡ fetch_check (target image-first image.now work-first work.now) address size)
-  check_fetch_answers = check_fetch.Met.met
+  pub fetch_refusal_answers : Answers M fetch_refusal_of.ended fetch_refusal_of.Symbol.routine
+      (λ _ (image-first, (image, (work-first, (work, (address, (size, _)))))) r _. r ≡ fetch_refusal (target image-first image.now work-first work.now) address size)
+  fetch_refusal_answers = fetch_refusal_of.Met.met
 
   pub run_answers : Answers M run.ended run.Symbol.routine
       (λ _ (expression, (registers, (image-first, (image, (work-first, (work, (variables, (buffer, (used, (tracepoint, (allowance, _)))))))))))
@@ -338,21 +332,10 @@ module _ {g : Given} {number : ℕ} {values v b : List ℕ} (tells : RunNumbers 
   steps_machine = steps_told
 
   -- "and the run ends as that machine ends: with the same refusal and offset, or the same answer, and with the same
-  -- records": `run_values` has the offset, the steps, the used length, the answer and, since M-102, what the refusal
-  -- carries, `buffer_of` the records.
+  -- records": `run_values` has the offset, the steps, the used length and the answer, `buffer_of` the records.
   pub ends_as_machine : (number ≡ number_of (ended g)) × (values ≡ run_values g (ended g))
       × (v ≡ variables_of g (ended g)) × (b ≡ buffer_of g (ended g))
   ends_as_machine = (tells.number_of, tells.values_of, tells.variables_of, tells.buffer_of)
-
-  -- M-102: "refusal 19 carries that number (for tracenz, from ADDR)": of the range that the instruction asks for at
-  -- which the machine stops, as many bytes lie from its address to the end of the span that holds it.
-  pub carries_readable : number ≡ range_not_readable
-      → (r : Refusal) × StopsShort g r × (values ≡ places_of r.offset r.steps g.used no_value r.readable)
-  carries_readable z = rw tells.values_of (reporting.carries g (sym tells.number_of ∙ z))
-
-  -- No other refusal carries one, and neither does a completed run.
-  pub carries_none : number ≢ range_not_readable → readable_in values ≡ 0
-  carries_none z = rw tells.values_of (reporting.carries_none g (rw tells.number_of at z))
 
 -- "For each accepted expression the verifier reports the number of instructions on the longest walk from its start to
 -- an end, counting both ways out of each conditional jump as possible. Some such walk has exactly that many, and none

@@ -7,7 +7,7 @@ use mathlib.Core.Logic.{◌⊎◌, ◌≢◌}
 use Prim.Native.Nat.{ℕ, ◌+◌, ◌-◌, ◌≤◌, ◌<◌}
 use lib.ListN.{length, get_or, drop}
 use lib.Dec.{eqb}
-use Rattle.isa.specs.Classes.{Class, ref, opcodes, class_of, row, kind, kind_unknown, kind_unsupported, kind_ext, kind_variable, kind_pick, kind_goto, kind_if_goto, kind_end}
+use Rattle.isa.specs.Classes.{Class, ref, class_of, row, kind, kind_unknown, kind_unsupported, kind_ext, kind_variable, kind_pick, kind_goto, kind_if_goto, kind_end}
 use Rattle.logic.specs.Tests.{member}
 use Rattle.isa.specs.Decode.{class_at, kind_at, operand_bytes, next, operand, picked, needed, left, height_after}
 use Rattle.isa.specs.Starts.{starts_from, is_start}
@@ -18,7 +18,6 @@ use Rattle.isa.proofs.Decoding as decoding
 use Rattle.isa.proofs.Following as following
 use Rattle.isa.proofs.Walking as walking
 use Rattle.isa.proofs.Holding as holding
-pub use Rattle.isa.proofs.Table.{ByLines}
 
 -- ---- the table: operand bytes by kind, and which opcodes have a row
 pub no_operands : (op : ℕ) → kind (class_of op) ≤ kind_unsupported → get_or (row (class_of op)) 0 0 ≡ 0
@@ -55,19 +54,12 @@ if_goto_cells = table.if_goto_cells
 pub end_cells : (op : ℕ) → kind (class_of op) ≡ kind_end → (get_or (row (class_of op)) 1 0 ≡ 0) × (get_or (row (class_of op)) 2 0 ≡ 0)
 end_cells = table.end_cells
 
--- at most 8 bytes are an operand, and 1 to 8 are read by a ref
+-- at most 8 bytes are an operand, and at most 8 are read by a ref
 pub operands_most : (op : ℕ) → get_or (row (class_of op)) 0 0 ≤ 8
 operands_most = table.operands_most
 
-pub ref_some : (op n : ℕ) → class_of op ≡ ref n → 1 ≤ n
-ref_some = table.ref_some
-
 pub ref_most : (op n : ℕ) → class_of op ≡ ref n → n ≤ 8
 ref_most = table.ref_most
-
--- what holds of the class of each line that has the opcode, and of `unknown`, holds of the opcode's class
-pub by_line : (P : Class → Type 0) (op : ℕ) → ByLines P op opcodes (P (class_of op))
-by_line = table.by_line
 
 -- ---- cells: from a row and the N of pick N as the code has them
 module _ (e : List ℕ) (k : ℕ) where

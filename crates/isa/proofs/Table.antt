@@ -32,23 +32,6 @@ pub rule : (p : Class → Bool) → T (every_class p opcodes) → (op : ℕ) →
 unfolding class_of
 rule p t op = among_rule p opcodes t op
 
--- what holds of the class of each line that has the opcode, and of `unknown`, holds of the opcode's class: X follows
-abbrev pub ByLines : (Class → Type 0) → ℕ → List (List ℕ × Class) → Type 0 → Type 0
-ByLines P op [] X = P unknown → X
-ByLines P op (l ∷ ls) X = (member op l.0 ≡ true → P l.1) → ByLines P op ls X
-
-of_either : (P : Class → Type 0) (b : Bool) (x y : Class) → (b ≡ true → P x) → P y → P (cond b x y)
-of_either P true x y s t = s refl
-of_either P false x y s t = t
-
-among_lines : (P : Class → Type 0) (op : ℕ) (ls : List (List ℕ × Class)) {X : Type 0} → (P (among op ls) → X) → ByLines P op ls X
-among_lines P op [] f = f
-among_lines P op (l ∷ ls) f = λ s. among_lines P op ls (λ t. f (of_either P (member op l.0) l.1 (among op ls) s t))
-
-pub by_line : (P : Class → Type 0) (op : ℕ) → ByLines P op opcodes (P (class_of op))
-unfolding class_of
-by_line P op = among_lines P op opcodes (λ p. p)
-
 -- ---- operand bytes by kind
 abbrev implies : Bool → Bool → Bool
 implies a b = not a || b
@@ -133,37 +116,33 @@ pub left_most : (op : ℕ) → get_or (row (class_of op)) 2 0 ≤ 3
 unfolding opcodes
 left_most op = leb→le _ _ (rule (λ c. leb (get_or (row c) 2 0) 3) tt op)
 
--- the byte count inside a class, and 1 where it has none
+-- the byte count inside a class, and 0 where it has none
 abbrev inside : Class → ℕ
-inside binary = 1
-inside trace = 1
-inside tracenz = 1
-inside unary = 1
+inside binary = 0
+inside trace = 0
+inside tracenz = 0
+inside unary = 0
 inside (ref n) = n
 inside (trace_quick n) = n
-inside ext = 1
-inside zero_ext_of = 1
-inside setv = 1
-inside if_goto = 1
-inside goto = 1
+inside ext = 0
+inside zero_ext_of = 0
+inside setv = 0
+inside if_goto = 0
+inside goto = 0
 inside (constant n) = n
-inside reg = 1
-inside getv = 1
-inside tracev = 1
-inside end = 1
-inside dup = 1
-inside pop = 1
-inside swap = 1
-inside pick = 1
-inside rot = 1
-inside unsupported = 1
-inside unknown = 1
+inside reg = 0
+inside getv = 0
+inside tracev = 0
+inside end = 0
+inside dup = 0
+inside pop = 0
+inside swap = 0
+inside pick = 0
+inside rot = 0
+inside unsupported = 0
+inside unknown = 0
 
--- a ref reads 1 to 8 bytes
-pub ref_some : (op n : ℕ) → class_of op ≡ ref n → 1 ≤ n
-unfolding opcodes
-ref_some op n p = rw p at (leb→le 1 (inside (class_of op)) (rule (λ c. leb 1 (inside c)) tt op))
-
+-- a ref reads at most 8 bytes
 pub ref_most : (op n : ℕ) → class_of op ≡ ref n → n ≤ 8
 unfolding opcodes
 ref_most op n p = rw p at (leb→le (inside (class_of op)) 8 (rule (λ c. leb (inside c) 8) tt op))

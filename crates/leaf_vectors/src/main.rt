@@ -1,7 +1,7 @@
 // Test vectors for `arithmetic`, `memory`, `frames` and `reader`: a line with a call in, a line with
 // its answer out. The first character of a line is its kind:
 //   w OPCODE A B                  an operator on words; B is 0 where it has one operand
-//   f F1 BYTES1 F2 BYTES2 A SIZE  a fetch of SIZE bytes at A, and how many can be read from there
+//   f F1 BYTES1 F2 BYTES2 A SIZE  a fetch of SIZE bytes at A
 //   r F1 BYTES1 F2 BYTES2 A       the rest of a span from A on
 //   z BYTES SIZE                  the search for a zero byte
 //   m ROOM A BYTES                a memory record, written into a free part of ROOM bytes
@@ -23,11 +23,8 @@ ghost use Rattle.io.specs.Counts.{IsPrefixLen};
 use fields::{bytes_at, has_fields, number_at};
 use frames::Put;
 use libc::STDOUT_FILENO;
-use memory::FetchCheck;
 use reading::{append_division, append_frames};
-use text::{
-    append_broken, append_bytes, append_number, append_refused, append_search, append_written,
-};
+use text::{append_broken, append_bytes, append_refused, append_search, append_written};
 use text_buffer::append;
 use words::append_word;
 
@@ -38,14 +35,6 @@ fn append_lent(out: &mut [u8], refusal: u8, bytes: &[u8]) -> usize
         return append_refused(out, refusal);
     }
     append_bytes(out, 0, bytes)
-}
-
-fn append_check(out: &mut [u8], check: FetchCheck, bytes: &[u8]) -> usize
-    ensures { IsPrefixLen result out.new }
-{
-    let a = append_lent(out, check.refusal, bytes);
-    let b = append(out, a, b" ");
-    append_number(out, b, check.readable)
 }
 
 fn append_read<'a>(out: &mut [u8], kind: u8, line: &[u8], image: &'a [u8], work: &'a [u8]) -> usize
@@ -62,8 +51,8 @@ fn append_read<'a>(out: &mut [u8], kind: u8, line: &[u8], image: &'a [u8], work:
         return append_bytes(out, 0, memory::rest(f, image, g, work, a));
     }
     let size = number_at(line, 6);
-    let check = memory::check_fetch(f, image, g, work, a, size);
-    append_check(out, check, memory::fetch(f, image, g, work, a, size))
+    let refusal = memory::fetch_refusal(f, image, g, work, a, size);
+    append_lent(out, refusal, memory::fetch(f, image, g, work, a, size))
 }
 
 fn append_spans(out: &mut [u8], kind: u8, line: &[u8]) -> usize

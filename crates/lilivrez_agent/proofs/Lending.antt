@@ -1,22 +1,19 @@
--- Where a fetch finds its bytes, that they are the bytes lent, and how many there are.
+-- Where a fetch finds its bytes, and that they are the bytes lent.
 use mathlib.Core.Bool.{Bool, true, false, cond, ◌&&◌}
-use mathlib.Core.List.{List, []}
+use mathlib.Core.List.{List, [], ◌∷◌}
 use mathlib.Core.Logic.{◌≢◌}
-use mathlib.Core.Path.{◌≡◌, refl, sym, ◌∙◌}
-use Prim.Native.Nat.{ℕ, ◌+◌, ◌-◌, ◌≤◌}
+use mathlib.Core.Path.{◌≡◌, refl, ap, sym, ◌∙◌}
+use Prim.Native.Nat.{ℕ, ◌+◌, ◌-◌, ◌≤◌, ◌<◌}
 use native.Mathlib.Omega.{arith}
 use lib.ListN.{length, take, drop}
-use lib.Dec.{leb, ltb}
-use borrow.Author.Tests.{eq-eqb, ne_eqb, lt-ltb, le-ltb, le-leb, lt-leb}
-use Rattle.logic.proofs.Promises.{cases}
+use lib.Dec.{ltb}
+use borrow.Author.Tests.{eq-eqb, ne_eqb, lt-ltb, le-ltb, lt-leb}
 use Rattle.memory.specs.Spans.{Target, spans_refusal}
 use Rattle.memory.specs.Joining.Holding.{cleared, held_at}
-use Rattle.memory.specs.Fetch.{holds_range, readable, whichever, bytes_at, fetch_refusal, readable_from, fetched}
-use Rattle.memory.specs.declared.Held.TheVariants.{InImage, InWork, Nowhere}
-use Rattle.memory.proofs.Promises.{holds_means, means_holds, fetch_first, fetch_0, readable_means, rest_refusal, readable_refused, readable_rest}
-use Rattle.memory.proofs.Promises.{held_image, held_work, image_rest, work_rest, nowhere_rest}
+use Rattle.memory.specs.Fetch.{holds_range, readable, whichever, bytes_at, fetch_refusal, fetched, rest_of}
+use Rattle.memory.specs.declared.Held.TheVariants.{InImage, InWork}
+use Rattle.memory.proofs.Promises.{holds_means, means_holds, fetch_first, fetch_0, readable_means, rest_refusal, held_image, held_work}
 use Rattle.lilivrez_agent.specs.Lent.{span_of, lent_at, fetch_values}
-use Rattle.lilivrez_agent.specs.Joining.Stored.{Stored}
 
 none_of : (t : Bool) (x : ℕ × ℕ) → cond (t && false) x (0, 0) ≡ (0, 0)
 none_of true x = refl
@@ -70,41 +67,40 @@ module _ (t : Target) (a k : ℕ) where
         (λ h. rw (lent_work h) (omega (arith, holds_means t.work a k (other_holds h))))
 
   -- ---- the ways out of the code: 12 or 13, then by the span that holds the address
-  abbrev Told : ℕ → List ℕ → Type 0
-  Told r values = (r ≡ fetch_refusal t a k) × (values ≡ fetch_values (lent_at t a k) (readable_from t a))
-
-  pub spans_refused : {r : ℕ} → r ≡ spans_refusal t → r ≢ 0 → Told r cleared
+  pub spans_refused : {r : ℕ} → r ≡ spans_refusal t → r ≢ 0 → (r ≡ fetch_refusal t a k) × (cleared ≡ fetch_values (lent_at t a k))
   spans_refused {r} e h =
-      let n : spans_refusal t ≢ 0 = λ z. h (e ∙ z) in
-      let p : r ≡ fetch_refusal t a k = e ∙ sym (fetch_first t a k n) in (p, rw (lent_refused (λ z. h (p ∙ z)), readable_refused t n a))
+      let p : r ≡ fetch_refusal t a k = e ∙ sym (fetch_first t a k (λ z. h (e ∙ z))) in (p, ap fetch_values (sym (lent_refused (λ z. h (p ∙ z)))))
 
   module _ (fine : spans_refusal t ≡ 0) where
-    refusal_by : {n : ℕ} → n ≡ readable_from t a → fetch_refusal t a k ≡ cond (leb k n) 0 19
-    refusal_by e = rest_refusal t fine a k ∙ rw (e, readable_rest t fine a)
+    pub nothing_lent : k ≡ 0 → (0 ≡ fetch_refusal t a k) × (cleared ≡ fetch_values (lent_at t a k))
+    nothing_lent e = (sym ((fetch_0 t a k).1 (fine, λ s. absurd (omega arith))), ap fetch_values (sym (lent_empty e)))
 
-    -- n bytes can be read; where they are enough, the span and the place are those of the fetch
-    pub stored_told : {n span place r : ℕ} {values : List ℕ} → n ≡ readable_from t a → (fetch_refusal t a k ≡ 0 → 1 ≤ k → k ≤ n → lent_at t a k ≡ (span, place))
-        → Stored k span place n r values → Told r values
-    stored_told {n} e lent s =
-        cases n k
-        (λ h. let z : fetch_refusal t a k ≡ 19 = refusal_by e ∙ rw (lt-leb k n h) in let w = s.short h in
-        (w.0 ∙ sym z, w.1 ∙ rw (lent_refused (λ y. omega (arith, y, z)), e)))
-        (λ h. let z : fetch_refusal t a k ≡ 0 = refusal_by e ∙ rw (le-leb k n h) in
-        cases 0 k (λ l. let w = s.some l h in (w.0 ∙ sym z, w.1 ∙ rw (lent z l h, e)))
-        (λ l. let w = s.none (omega arith) in (w.0 ∙ sym z, w.1 ∙ rw (lent_empty (omega arith), e))))
+    module _ (s : 1 ≤ k) where
+      fetched_where : readable t a k ≡ true → fetch_refusal t a k ≡ 0
+      fetched_where r = (fetch_0 t a k).1 (fine, λ _. (readable_means t a k s).0 r)
 
-    pub image_told : {i r : ℕ} {values : List ℕ} → InImage i ≡ held_at t a → Stored k 1 i (length t.image.bytes - i) r values → Told r values
-    image_told p =
-        let o = held_image t a p in let w = holds_means t.image a 1 o.0 in
-        stored_told (sym (readable_rest t fine a ∙ image_rest t a p))
-        (λ z l h. lent_image z l (means_holds t.image a k w.0 (omega (arith, w.1, o.1))) ∙ rw (← o.1))
+      pub image_lent : {i : ℕ} → InImage i ≡ held_at t a → k ≤ length t.image.bytes - i
+          → (0 ≡ fetch_refusal t a k) × (1 ∷ i ∷ [] ≡ fetch_values (lent_at t a k))
+      unfolding readable
+      image_lent p h =
+          let o = held_image t a p in
+          let m : holds_range t.image a k ≡ true = let w = holds_means t.image a 1 o.0 in means_holds t.image a k w.0 (omega (arith, w.1, o.1)) in
+          let z = fetched_where (rw m) in
+          (sym z, rw (lent_image z s m, o.1))
 
-    pub work_told : {i r : ℕ} {values : List ℕ} → InWork i ≡ held_at t a → Stored k 2 i (length t.work.bytes - i) r values → Told r values
-    work_told p =
-        let o = held_work t a p in
-        stored_told (sym (readable_rest t fine a ∙ work_rest t a p))
-        (λ z l h. lent_work z l
-        (by_test (holds_range t.image a k) (λ m. let w = holds_means t.image a k m in not_both o.0 (means_holds t.image a 1 w.0 (omega (arith, w.1)))) (λ m. m)) ∙ rw (← o.2))
+      pub work_lent : {i : ℕ} → InWork i ≡ held_at t a → k ≤ length t.work.bytes - i
+          → (0 ≡ fetch_refusal t a k) × (2 ∷ i ∷ [] ≡ fetch_values (lent_at t a k))
+      unfolding readable
+      work_lent p h =
+          let o = held_work t a p in
+          let n : holds_range t.image a k ≡ false =
+          by_test (holds_range t.image a k) (λ m. let w = holds_means t.image a k m in not_both o.0 (means_holds t.image a 1 w.0 (omega (arith, w.1)))) (λ m. m) in
+          let m : holds_range t.work a k ≡ true = let w = holds_means t.work a 1 o.1 in means_holds t.work a k w.0 (omega (arith, w.1, o.2)) in
+          let z = fetched_where (rw (n, m)) in
+          (sym z, rw (lent_work z s n, o.2))
 
-    pub nowhere_told : Nowhere ≡ held_at t a → {r : ℕ} {values : List ℕ} → Stored k 0 0 0 r values → Told r values
-    nowhere_told p = stored_told (sym (readable_rest t fine a ∙ nowhere_rest t a p)) (λ z l h. absurd (omega arith))
+    -- the bytes from the address on are too few
+    pub none_lent : length (rest_of t a) < k → (19 ≡ fetch_refusal t a k) × (cleared ≡ fetch_values (lent_at t a k))
+    none_lent h =
+        let z : fetch_refusal t a k ≡ 19 = rest_refusal t fine a k ∙ rw (lt-leb k (length (rest_of t a)) h) in
+        (sym z, ap fetch_values (sym (lent_refused (λ e. omega (arith, e, z)))))

@@ -1,5 +1,4 @@
--- Where the bytes that a fetch lends are, and how many can be read: what `lilivrez_fetch` stores. Document 01, "Meanings
--- the manual leaves open", and M-102.
+-- Where the bytes that a fetch lends are: what `lilivrez_fetch` stores. Document 01, "Meanings the manual leaves open".
 use Rattle.std.specs.Prelude.{cond, ◌&&◌, List, [], ◌∷◌, ℕ, ◌-◌, eqb, ltb}
 use Rattle.memory.specs.Spans.{Target}
 use Rattle.memory.specs.Fetch.{holds_range, fetch_refusal}
@@ -14,6 +13,6 @@ unfoldable pub lent_at : Target → ℕ → ℕ → ℕ × ℕ
 lent_at t a k =
     cond (ltb 0 k && eqb (fetch_refusal t a k) 0) (cond (holds_range t.image a k) (1, a - t.image.first) (2, a - t.work.first)) (0, 0)
 
--- the two as they are stored, and n, how many bytes can be read from the address on
-abbrev pub fetch_values : ℕ × ℕ → ℕ → List ℕ
-fetch_values p n = p.0 ∷ p.1 ∷ n ∷ []
+-- the two as they are stored
+abbrev pub fetch_values : ℕ × ℕ → List ℕ
+fetch_values p = p.0 ∷ p.1 ∷ []

@@ -1,6 +1,6 @@
 -- How a run ended, as numbers: what `lilivrez_run` returns and stores, and what it leaves in variables and buffer.
--- Document 01, "Running", and M-102.
-use Rattle.std.specs.Prelude.{List, [], ◌∷◌, ◌++◌, ◌≡◌, ℕ}
+-- Document 01, "Running".
+use Rattle.std.specs.Prelude.{List, [], ◌∷◌, ◌≡◌, ℕ}
 use Rattle.machine.specs.Given.{Given}
 use Rattle.machine.specs.Machine.{Answer, no_value, top, top_and_beneath, Ended, completed, stopped}
 use Rattle.machine.specs.Run.{ended, number_of, variables_of, used_of, buffer_of}
@@ -18,14 +18,10 @@ cell_values no_value = 0 ∷ 0 ∷ 0 ∷ []
 cell_values (top x) = 1 ∷ x ∷ 0 ∷ []
 cell_values (top_and_beneath x y) = 2 ∷ x ∷ y ∷ []
 
--- the offset of the refusal, or 0; the steps; the used length; the cells told; how many bytes could be read, which is 0
--- unless the refusal carries it (M-102)
-abbrev pub places_of : ℕ → ℕ → ℕ → Answer → ℕ → List ℕ
-places_of offset steps used a readable = offset ∷ steps ∷ used ∷ cell_values a ++ (readable ∷ [])
-
+-- the offset of the refusal, or 0; the steps; the used length; the cells told
 unfoldable pub run_values : Given → Ended → List ℕ
-run_values g (completed a n v rs) = places_of 0 n (used_of g (completed a n v rs)) a 0
-run_values g (stopped r rs) = places_of r.offset r.steps (used_of g (stopped r rs)) no_value r.readable
+run_values g (completed a n v rs) = 0 ∷ n ∷ used_of g (completed a n v rs) ∷ cell_values a
+run_values g (stopped r rs) = r.offset ∷ r.steps ∷ used_of g (stopped r rs) ∷ cell_values no_value
 
 -- what is returned and stored tells of a run that is given g and ended as o
 pub record EndNumbers (g : Given) (o : Ended) (number : ℕ) (values : List ℕ) : Type 0 where

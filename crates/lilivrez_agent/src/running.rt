@@ -10,29 +10,20 @@ ghost use Rattle.lilivrez_agent.specs.RunValues.{EndNumbers, RunNumbers};
 use runner::{Outcome, Value};
 
 // An outcome as numbers: returned and stored. `used` is the used length given: a refusal leaves it as it is.
-fn store_outcome(outcome: Outcome, used: usize, out: &mut [u64; 7]) -> u32
+fn store_outcome(outcome: Outcome, used: usize, out: &mut [u64; 6]) -> u32
     ensures { (g : Given) (o : Ended) → g.used ≡ used → returned_by outcome ≡ returned g o → EndNumbers g o result out.new }
 {
     match outcome {
         Outcome::Refused(refusal) => {
-            let offset = refusal.offset as u64;
-            *out = [
-                offset,
-                refusal.steps,
-                used as u64,
-                0,
-                0,
-                0,
-                refusal.readable,
-            ];
+            *out = [refusal.offset as u64, refusal.steps, used as u64, 0, 0, 0];
             refusal.number as u32
         }
         Outcome::Completed(value, steps, length) => {
             match value {
-                Value::Nothing => *out = [0, steps, length as u64, 0, 0, 0, 0],
-                Value::Top(top) => *out = [0, steps, length as u64, 1, top, 0, 0],
+                Value::Nothing => *out = [0, steps, length as u64, 0, 0, 0],
+                Value::Top(top) => *out = [0, steps, length as u64, 1, top, 0],
                 Value::TopAndBeneath(top, beneath) => {
-                    *out = [0, steps, length as u64, 2, top, beneath, 0]
+                    *out = [0, steps, length as u64, 2, top, beneath]
                 }
             }
             0
@@ -42,7 +33,7 @@ fn store_outcome(outcome: Outcome, used: usize, out: &mut [u64; 7]) -> u32
 
 // Verifies the expression, checks the inputs, and runs it: at most `allowance` instructions. Returns the number of the
 // refusal, or 0 where the run completed. Stores the offset of the refusal, the steps, the used length, how many cells
-// the answer tells, the top and the cell beneath, and how many bytes could be read where that is refused with 19.
+// the answer tells, the top and the cell beneath.
 #[unsafe(no_mangle)]
 pub extern "C" fn lilivrez_run<'a>(
     expression: &[u8],
@@ -56,7 +47,7 @@ pub extern "C" fn lilivrez_run<'a>(
     used: usize,
     tracepoint: u16,
     allowance: u64,
-    out: &mut [u64; 7],
+    out: &mut [u64; 6],
 ) -> u32
     ensures { RunNumbers (given expression.now registers.now variables.old (target image_first image.now work_first work.now) tracepoint buffer.old used allowance) result out.new variables.new buffer.new }
 {
@@ -89,7 +80,7 @@ pub extern "C" fn lilivrez_run_default<'a>(
     buffer: &mut [u8],
     used: usize,
     tracepoint: u16,
-    out: &mut [u64; 7],
+    out: &mut [u64; 6],
 ) -> u32
     ensures { RunNumbers (given expression.now registers.now variables.old (target image_first image.now work_first work.now) tracepoint buffer.old used default_allowance) result out.new variables.new buffer.new }
 {

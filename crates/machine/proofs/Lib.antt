@@ -4,7 +4,6 @@ pub mod Cells
 pub mod Following
 pub mod Steps
 pub mod Standing
-pub mod Short
 pub mod Ending
 pub mod Made
 pub mod Recorded

@@ -1,7 +1,7 @@
--- What users of `machine` may cite: promises R2 and R3, what refusal 19 carries, that records are well formed, how a
--- run ends before it steps, and what a loop that follows the machine needs at each step. The definitions that it names
--- are in specs/: Machine (the moves), Run (a run on any input), Short (refusal 19), Recorded (what its records hold);
--- and of other crates `isa` Walk, `verdict` Acceptance.
+-- What users of `machine` may cite: promises R2 and R3, that records are well formed, how a run ends before it steps,
+-- and what a loop that follows the machine needs at each step. The definitions that it names are in specs/: Machine
+-- (the moves), Run (a run on any input), Recorded (what its records hold); and of other crates `isa` Walk, `verdict`
+-- Acceptance.
 use mathlib.Core.List.{List, []}
 use mathlib.Core.Logic.{◌≢◌}
 use mathlib.Core.Path.{◌≡◌}
@@ -12,7 +12,6 @@ use Rattle.isa.specs.Decode.{class_at, kind_at, needed, left, height_after}
 use Rattle.isa.specs.Walk.{After}
 use Rattle.sizes.specs.Sizes.{buffer_most}
 use Rattle.refusals.specs.declared.Refusal.{Refusal}
-use Rattle.refusals.specs.Numbers.{range_not_readable}
 use Rattle.refusals.specs.Refusal.{refusal}
 use Rattle.memory.specs.Spans.{Target, spans_refusal}
 use Rattle.memory.specs.Fetch.{InTarget, target_byte}
@@ -25,13 +24,11 @@ use Rattle.machine.specs.Meaning.{leaves, faults, end_done, done, stack_after, v
 use Rattle.machine.specs.Machine.{Answer, Ended, completed, stopped, Standing, stands, over, onward, moves}
 use Rattle.machine.specs.Run.{input_refusal, begun, stepped, ended, steps_of, number_of}
 use Rattle.machine.specs.Standing.{standing_from, standing}
-use Rattle.machine.specs.Short.{StopsShort}
 use Rattle.machine.specs.Recorded.{FromTarget, AllFromTarget, records_of, Typed}
 use Rattle.machine.proofs.Cells as cells
 use Rattle.machine.proofs.Following as following
 use Rattle.machine.proofs.Steps as steps
 use Rattle.machine.proofs.Standing as standings
-use Rattle.machine.proofs.Short as short
 use Rattle.machine.proofs.Made as made
 use Rattle.machine.proofs.Ending as ending
 use Rattle.machine.proofs.Recorded as recorded
@@ -61,16 +58,6 @@ module _ (g : Given) where
   -- ---- the number of a refusal is one of 1 to 21
   pub stopped_number : {r : Refusal} {rs : List Record} → ended g ≡ stopped r rs → (1 ≤ r.number) × (r.number ≤ 21)
   stopped_number = steps.stopped_number g
-
-  -- ---- M-102: "refusal 19 carries that number (for tracenz, from ADDR)"
-  -- the machine then stands at an instruction that asks for a range, and as many bytes as the refusal carries lie from
-  -- its address to the end of the span that holds it, fewer than asked for
-  pub stopped_short : {r : Refusal} {rs : List Record} → ended g ≡ stopped r rs → r.number ≡ range_not_readable → StopsShort g r
-  stopped_short = short.stopped_short g
-
-  -- no other refusal carries a number
-  pub stopped_other : {r : Refusal} {rs : List Record} → ended g ≡ stopped r rs → r.number ≢ range_not_readable → r.readable ≡ 0
-  stopped_other = short.stopped_other g
 
   -- ---- how a run begins
   -- a refused expression ends it, with 0 steps and no records; else refused inputs do; else the machine moves from its

@@ -9,7 +9,7 @@ use lib.ListN.{length}
 use lib.Dec.{eqb}
 use borrow.Author.Tests.{ne_eqb, eqb-true, eqb-false}
 use Rattle.refusals.specs.declared.Refusal.{Refusal}
-use Rattle.refusals.specs.Refusal.{refusal}
+use Rattle.refusals.specs.Refusal.{refusal, refusal_after}
 use Rattle.refusals.proofs.Promises.{tried_most}
 use Rattle.isa.specs.Classes.{kind_end}
 use Rattle.isa.specs.Decode.{kind_at}
@@ -19,7 +19,7 @@ use Rattle.verdict.specs.Acceptance.{Accepted}
 use Rattle.verdict.proofs.Promises.{accepted_means, refused_number, refused_plain, longest_length}
 use Rattle.machine.specs.Given.{Given, fixed_of, State, begin, free_of}
 use Rattle.machine.specs.Meaning.{Done, leaves, faults, done}
-use Rattle.machine.specs.Machine.{Ended, completed, stopped, answer, moved, stands, over, refusal_at, moved_by, onward, moves}
+use Rattle.machine.specs.Machine.{Ended, completed, stopped, answer, moved, stands, over, moved_by, onward, moves}
 use Rattle.machine.specs.Run.{input_tests, input_refusal, after_verdict, begun, stepped, ended, steps_of, number_of}
 use Rattle.machine.proofs.Cells.{by_test}
 use Rattle.machine.proofs.Following.{OnWalk, walk_begins, steps_short, walk_moves, walk_faults}
@@ -41,7 +41,7 @@ module _ (m : Given) (go : State → Ended) (st : State) (P : Ended → Type 0) 
   pub onward_by : (d : Done)
       → ((cells : List ℕ) (rs : List Record) → d ≡ leaves cells rs → kind_at m.expression st.offset ≡ kind_end → P (completed (answer st.stack) (st.steps + 1) st.variables st.records))
       → ((cells : List ℕ) (rs : List Record) → d ≡ leaves cells rs → kind_at m.expression st.offset ≢ kind_end → P (go (moved m st cells rs)))
-      → ((n : ℕ) → d ≡ faults n → P (stopped (refusal_at m st n) st.records))
+      → ((n : ℕ) → d ≡ faults n → P (stopped (refusal_after n st.offset st.steps) st.records))
       → P (onward go (moved_by m st d))
   onward_by (leaves cells rs) f g h =
       onward_to cells rs (eqb (kind_at m.expression st.offset) kind_end) (λ t. f cells rs refl (eqb-true _ _ t)) (λ t. g cells rs refl (eqb-false _ _ t))
@@ -112,7 +112,7 @@ module _ (m : Given) where
     unfolding ended
     inputs_fine h = ap (onward (moves m m.allowance)) (begun_fine h)
 
-  pub refusal_low : input_refusal m ≤ 15
+  refusal_low : input_refusal m ≤ 15
   unfolding input_refusal
   refusal_low = tried_most 15 (input_tests m.registers m.target m.buffer m.used) tt
 

@@ -9,9 +9,9 @@ use Rattle.isa.specs.Classes.{opcodes, class_of}
 use Rattle.isa.specs.Decode.{operand, picked, needed, left, height_after}
 use Rattle.isa.specs.Starts.{starts_at_most, starts_from, is_start}
 use Rattle.arithmetic.specs.Words.{div_signed, inserted, lsh, rsh_signed, rsh_unsigned, ext}
-use Rattle.refusals.specs.Refusal.{refusal, refusal_after, refusal_carrying}
-use Rattle.memory.specs.Spans.{target, ends_past, share_address, spans_refusal}
-use Rattle.memory.specs.Fetch.{holds_range, readable, fetch_refusal, readable_from, fetched, rest_of}
+use Rattle.refusals.specs.Refusal.{refusal, refusal_after}
+use Rattle.memory.specs.Spans.{target, ends_past, share_address}
+use Rattle.memory.specs.Fetch.{holds_range, readable, fetch_refusal, fetched, rest_of}
 use Rattle.memory.specs.FirstZero.{searched}
 use Rattle.frames.specs.Record.{Record, memory, encode, encode_all}
 use Rattle.frames.specs.Trailer.{encode_trailer}
@@ -24,8 +24,7 @@ use Rattle.verdict.specs.Verdict.{Verdict, accepted, refused, after1, after2, af
 use Rattle.machine.specs.Given.{Given, given}
 use Rattle.machine.specs.Words.{binary_word, zero_divisor}
 use Rattle.machine.specs.Recording.{fitting, range_made, to_zero_made}
-use Rattle.machine.specs.Meaning.{binary_done, ref_done, end_done, done, stack_after, variables_after, offset_after}
-use Rattle.machine.specs.Asked.{asked, carried}
+use Rattle.machine.specs.Meaning.{binary_done, end_done, done, stack_after, variables_after, offset_after}
 use Rattle.machine.specs.Machine.{Ended, completed, stopped, no_value, top, top_and_beneath, moves}
 use Rattle.machine.specs.Run.{input_refusal, ended, default_allowance, left_bytes}
 
@@ -83,7 +82,7 @@ starred =
         ),
       ),
     )
-    ∷ (0x23 ∷ 0x10 ∷ 0x00 ∷ 0x0d ∷ 0x04 ∷ 0x27 ∷ [], (accepted 3 1 3, (stopped (refusal_carrying 19 3 1 3) [], [])))
+    ∷ (0x23 ∷ 0x10 ∷ 0x00 ∷ 0x0d ∷ 0x04 ∷ 0x27 ∷ [], (accepted 3 1 3, (stopped (refusal_after 19 3 1) [], [])))
     ∷ (
       0x23 ∷ 0x10 ∷ 0x00 ∷ 0x22 ∷ 0x03 ∷ 0x2f ∷ 0x27 ∷ [],
       (
@@ -94,10 +93,6 @@ starred =
         ),
       ),
     )
-    -- M-102: ref64 where 2 bytes are left, and past the end; tracenz, from ADDR, where the one byte left is not zero
-    ∷ (0x23 ∷ 0x10 ∷ 0x01 ∷ 0x1a ∷ 0x27 ∷ [], (accepted 3 1 3, (stopped (refusal_carrying 19 3 1 2) [], [])))
-    ∷ (0x23 ∷ 0x10 ∷ 0x03 ∷ 0x17 ∷ 0x27 ∷ [], (accepted 3 1 3, (stopped (refusal_carrying 19 3 1 0) [], [])))
-    ∷ (0x23 ∷ 0x10 ∷ 0x02 ∷ 0x22 ∷ 0x03 ∷ 0x2f ∷ 0x27 ∷ [], (accepted 4 2 4, (stopped (refusal_carrying 19 5 2 1) [], [])))
     -- M-100: "Add 63, 64, 65 and 2^64 − 1 to the examples": lsh, rsh_signed, rsh_unsigned, the top bit 0 and 1
     ∷ shift 0x09 3 63 (2 ^ 63) ∷ shift 0x09 3 64 0 ∷ shift 0x09 3 65 0 ∷ shift 0x09 3 (minus 1) 0
     ∷ shift 0x09 (minus 3) 63 (2 ^ 63) ∷ shift 0x09 (minus 3) 64 0 ∷ shift 0x09 (minus 3) 65 0 ∷ shift 0x09 (minus 3) (minus 1) 0
@@ -108,5 +103,5 @@ starred =
     ∷ []
 
 pub examples : map (λ (c : List ℕ × (Verdict × (Ended × List ℕ))). run c.0) starred ≡ map (λ (c : List ℕ × (Verdict × (Ended × List ℕ))). c.1) starred
-unfolding starred ended input_refusal left_bytes ends_past share_address verdict after1 after2 after3 pass3 heights0 distances0 heights_along longer fault3 runs_off at_next at_target raise arrive fault2 fault1 first is_start starts_from starts_at_most height_after left needed picked operand class_of opcodes big_endian big_bytes moves done binary_done ref_done end_done stack_after variables_after offset_after binary_word zero_divisor div_signed inserted lsh rsh_signed rsh_unsigned ext range_made to_zero_made fitting holds_range readable fetch_refusal spans_refusal readable_from asked carried fetched rest_of searched encode encode_all encode_trailer encode_frame little_bytes
+unfolding starred ended input_refusal left_bytes ends_past share_address verdict after1 after2 after3 pass3 heights0 distances0 heights_along longer fault3 runs_off at_next at_target raise arrive fault2 fault1 first is_start starts_from starts_at_most height_after left needed picked operand class_of opcodes big_endian big_bytes moves done binary_done end_done stack_after variables_after offset_after binary_word zero_divisor div_signed inserted lsh rsh_signed rsh_unsigned ext range_made to_zero_made fitting holds_range readable fetch_refusal fetched rest_of searched encode encode_all encode_trailer encode_frame little_bytes
 examples = refl

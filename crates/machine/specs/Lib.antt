@@ -4,10 +4,8 @@ pub mod Given
 pub mod Words
 pub mod Recording
 pub mod Meaning
-pub mod Asked
 pub mod Machine
 pub mod Run
 pub mod Standing
-pub mod Short
 pub mod Recorded
 pub mod Examples

@@ -4,11 +4,10 @@ use Rattle.isa.specs.Classes.{kind_end}
 use Rattle.isa.specs.Decode.{kind_at}
 use Rattle.refusals.specs.declared.Refusal.{Refusal}
 use Rattle.refusals.specs.Numbers.{allowance_spent}
-use Rattle.refusals.specs.Refusal.{refusal_after, refusal_carrying}
+use Rattle.refusals.specs.Refusal.{refusal_after}
 use Rattle.frames.specs.Record.{Record}
 use Rattle.machine.specs.Given.{Given, fixed_of, State, free_of}
 use Rattle.machine.specs.Meaning.{Done, leaves, faults, done, stack_after, variables_after, offset_after}
-use Rattle.machine.specs.Asked.{carried}
 
 -- "At end, the answer is: no value (empty stack), the top (one cell), or the top and the cell beneath (two or more)."
 pub data Answer : Type 0 where
@@ -43,10 +42,6 @@ pub data Standing : Type 0 where
   stands : State → Standing
   over : Ended → Standing
 
--- the refusal with the number n at this offset, after these steps, with what it carries
-abbrev pub refusal_at : Given → State → ℕ → Refusal
-refusal_at g st n = refusal_carrying n st.offset st.steps (carried (fixed_of g) st.offset st.stack n)
-
 -- after the instruction: end completes, any other moves on; "if one of 16 to 21 is met, the machine stops with that
 -- refusal at that offset"
 abbrev pub moved_by : Given → State → Done → Standing
@@ -55,7 +50,7 @@ moved_by g st (leaves cells rs) =
       | true ↦ over (completed (answer st.stack) (st.steps + 1) st.variables st.records)
       | false ↦ stands (moved g st cells rs)
     ]
-moved_by g st (faults n) = over (stopped (refusal_at g st n) st.records)
+moved_by g st (faults n) = over (stopped (refusal_after n st.offset st.steps) st.records)
 
 -- one move, where the allowance is not spent
 abbrev pub move : Given → State → Standing

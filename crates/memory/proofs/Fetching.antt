@@ -3,7 +3,7 @@ use Rattle.std.proofs.Common.{◌≡◌, ℕ, ◌+◌, ◌-◌, ◌%◌, ◌^◌
 use borrow.Author.Tests.{lt-leb}
 use Rattle.logic.proofs.Promises.{cases, no_true}
 use Rattle.memory.specs.Spans.{Span, Target, span_end, InSpan, span_tests, spans_refusal}
-use Rattle.memory.specs.Fetch.{holds_range, readable, fetch_refusal, readable_from, fetch_check, whichever, bytes_from, bytes_at, fetched, InTarget, target_byte, rest_of, Within, Readable, PartOf}
+use Rattle.memory.specs.Fetch.{holds_range, readable, fetch_refusal, whichever, bytes_from, bytes_at, fetched, InTarget, target_byte, rest_of, Within, Readable, PartOf}
 use Rattle.memory.specs.Joining.Holding.{held_at}
 use Rattle.memory.specs.declared.Held.TheVariants.{InImage, InWork, Nowhere}
 use Rattle.refusals.proofs.Promises.{tried_first, tried_then}
@@ -334,63 +334,16 @@ module _ (t : Target) where
         let y = fetched_byte a (i + 1) z i (omega arith) in
         (y.0, sym (get_or-take (i + 1) (rest_of t a) i 0 (omega arith)) ∙ rw (rest_fetched (i + 1) (omega arith)) at y.1)
 
-    -- ---- how many they are
-    counted : readable_from t a ≡ whichever t a 1 (λ s. span_end s - a) 0
-    unfolding readable_from
-    counted = rw (eq-eqb (spans_refusal t) 0 fine)
-
-    pub readable_rest : readable_from t a ≡ length (rest_of t a)
-    readable_rest =
-        counted ∙ one_of a 1
-        (λ h. rw (h, ← (rest_image a h), length-drop) (omega (arith, holds_true t.image a 1 h)))
-        (λ h m. rw (h, m, ← (rest_work a h m), length-drop) (omega (arith, holds_true t.work a 1 m)))
-        (λ h m. rw (h, m, ← (rest_none a h m)))
-
-    pub readable_image : InSpan t.image a → readable_from t a ≡ span_end t.image - a
-    readable_image i = counted ∙ rw (holds_address t.image a i)
-
-    pub readable_work : InSpan t.work a → readable_from t a ≡ span_end t.work - a
-    readable_work i = counted ∙ rw (misses_address t.image a (λ j. apart a j i), holds_address t.work a i)
-
-    pub readable_range : (k : ℕ) → 1 ≤ k → Readable t a k ↔ (k ≤ readable_from t a)
-    readable_range k s = rw readable_rest (rest_readable k s)
-
-    pub readable_some : (1 ≤ readable_from t a) ↔ InTarget t a
-    readable_some =
-        let r = readable_range 1 (omega arith) in let w = target_holds a in let m = readable_means a 1 (omega arith) in
-        (λ h. w.0 (m.1 (r.1 h)), λ i. r.0 (m.0 (w.1 i)))
-
-    pub readable_fetched : (fetch_refusal t a (readable_from t a) ≡ 0) × (fetched t a (readable_from t a) ≡ rest_of t a)
-    readable_fetched =
-        let l : readable_from t a ≤ length (rest_of t a) = omega (arith, readable_rest) in (
-          rest_refusal (readable_from t a) ∙ rw (le-leb (readable_from t a) (length (rest_of t a)) l),
-          rest_fetched (readable_from t a) l ∙ take_all (readable_from t a) (rest_of t a) (omega (arith, readable_rest)),
-        )
-
-    -- ---- the answers of `check_fetch` and `fetch`, of the bytes r that `rest` lends, and of how many they are
-    module _ {k : ℕ} where
-      short : length (rest_of t a) < k → fetch_refusal t a k ≡ 19
-      short h = rest_refusal k ∙ rw (lt-leb k (length (rest_of t a)) h)
-
-      pub check_short : {n : ℕ} → n ≡ readable_from t a → n < k → record { refusal = 19; readable = n } ≡ fetch_check t a k
-      check_short e h = rw (short (omega (arith, e, readable_rest)), e)
-
-      pub check_none : {n : ℕ} → n ≡ readable_from t a → k ≤ n → record { refusal = 0; readable = n } ≡ fetch_check t a k
-      check_none e h = rw (rest_refusal k, le-leb k (length (rest_of t a)) (omega (arith, e, readable_rest)), e)
-
+    -- ---- the answers of `fetch_refusal` and `fetch`, of the bytes r that `rest` lends
     module _ {r : List ℕ} (lent : r ≡ rest_of t a) {k : ℕ} where
+      pub refusal_short : length r < k → 19 ≡ fetch_refusal t a k
+      refusal_short h = sym (rest_refusal k ∙ rw (← lent, lt-leb k (length r) h))
+
+      pub refusal_none : k ≤ length r → 0 ≡ fetch_refusal t a k
+      refusal_none h = sym (rest_refusal k ∙ rw (← lent, le-leb k (length r) h))
+
       pub fetch_fits : fetch_refusal t a k ≡ 0 → k ≤ length r
-      fetch_fits z = cases (length r) k (λ h. absurd (omega (arith, z, short (rw lent at h)))) (λ h. h)
+      fetch_fits z = cases (length r) k (λ h. absurd (omega (arith, z, refusal_short h))) (λ h. h)
 
       pub fetch_lends : k ≤ length r → take k r ≡ fetched t a k
       fetch_lends h = rw lent (sym (rest_fetched k (rw lent at h)))
-
-  -- 12 and 13 tell no count
-  pub readable_refused : spans_refusal t ≢ 0 → (a : ℕ) → readable_from t a ≡ 0
-  unfolding readable_from
-  readable_refused h a = rw (ne_eqb (spans_refusal t) 0 h)
-
-  pub check_first : {r : ℕ} → r ≡ spans_refusal t → r ≢ 0 → (a k : ℕ) → record { refusal = r; readable = 0 } ≡ fetch_check t a k
-  check_first e h a k =
-      let n : spans_refusal t ≢ 0 = λ z. h (e ∙ z) in
-      rw (e, fetch_first n a k, readable_refused n a)

@@ -2,7 +2,7 @@
 -- are the rest. A range is k bytes at the address a.
 use Rattle.std.proofs.Common.{◌≡◌, ℕ, ◌+◌, ◌-◌, ◌^◌, ◌<◌, ◌≤◌, true, false, cond, leb, ◌≢◌, ◌⊎◌, ◌↔◌, List, [], length, get_or, take, sym}
 use Rattle.memory.specs.Spans.{Span, Target, span_end, InSpan, share_address, spans_refusal, FineSpans}
-use Rattle.memory.specs.Fetch.{holds_range, readable, fetch_refusal, readable_from, fetched, InTarget, target_byte, rest_of, Readable, PartOf}
+use Rattle.memory.specs.Fetch.{holds_range, readable, fetch_refusal, fetched, InTarget, target_byte, rest_of, Readable, PartOf}
 use Rattle.memory.specs.Joining.Holding.{held_at}
 use Rattle.memory.specs.declared.Held.TheVariants.{InImage, InWork, Nowhere}
 use Rattle.memory.specs.FirstZero.{Sought, up_to_zero, all_of_size, cut_short, searched, FirstZero, NoneInSize, EndedBefore, Says}
@@ -138,34 +138,6 @@ module _ (t : Target) where
     pub rest_byte : (i : ℕ) → i < length (rest_of t a)
         → InTarget t (a + i) × (get_or (rest_of t a) i 0 ≡ target_byte t (a + i))
     rest_byte = fetching.rest_byte t fine a
-
-  -- ---- M-102: how many bytes lie from an address to the end of the span that holds it, whatever length is asked for
-  -- "0 .. with 12 and 13"
-  pub readable_refused : spans_refusal t ≢ 0 → (a : ℕ) → readable_from t a ≡ 0
-  readable_refused = fetching.readable_refused t
-
-  module _ (fine : spans_refusal t ≡ 0) (a : ℕ) where
-    -- "from the asked address to the end of the span that holds it": of one span, also where the other touches it
-    pub readable_image : InSpan t.image a → readable_from t a ≡ span_end t.image - a
-    readable_image = fetching.readable_image t fine a
-
-    pub readable_work : InSpan t.work a → readable_from t a ≡ span_end t.work - a
-    readable_work = fetching.readable_work t fine a
-
-    -- "0 if none does": the count is positive exactly where a span holds the address
-    pub readable_some : (1 ≤ readable_from t a) ↔ InTarget t a
-    readable_some = fetching.readable_some t fine a
-
-    -- a range of a byte or more is readable exactly if it is no longer than the count
-    pub readable_range : (k : ℕ) → 1 ≤ k → Readable t a k ↔ (k ≤ readable_from t a)
-    readable_range = fetching.readable_range t fine a
-
-    -- so many bytes are lent, and they are all from the address to the span's end: the target's (`fetched_byte`)
-    pub readable_fetched : (fetch_refusal t a (readable_from t a) ≡ 0) × (fetched t a (readable_from t a) ≡ rest_of t a)
-    readable_fetched = fetching.readable_fetched t fine a
-
-    pub readable_rest : readable_from t a ≡ length (rest_of t a)
-    readable_rest = fetching.readable_rest t fine a
 
 -- ---- the search for the first zero byte among the first `size` bytes of l
 module _ (size : ℕ) (l : List ℕ) where

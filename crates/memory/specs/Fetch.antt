@@ -1,15 +1,9 @@
--- Reading target memory: document 01, "Meanings the manual leaves open", refusal 19, and how much can be read (M-102). A
--- range is a number k of bytes at an address a.
+-- Reading target memory: document 01, "Meanings the manual leaves open", and refusal 19. A range is a number k of bytes
+-- at an address a.
 use Rattle.std.specs.Prelude.{◌≡◌, ℕ, ◌+◌, ◌-◌, ◌<◌, Bool, cond, not, ◌&&◌, ◌||◌, ◌⊎◌, List, [], ◌∷◌, ◌++◌, length, take, drop, ◌==◌, nat_le, nat_lt, slice_index}
 use Rattle.refusals.specs.Numbers.{range_not_readable}
 use Rattle.refusals.specs.Tried.{tried}
-use Rattle.memory.specs.Spans.{Span, Target, span_end, InSpan, span_tests, spans_refusal}
-use Rattle.memory.specs.declared.FetchCheck.{FetchCheck}
-use Rattle.memory.specs.declared.Range.{Range}
-
--- an address, and how many bytes
-abbrev pub range : ℕ → ℕ → Range
-range a k = record { address = a; size = k }
+use Rattle.memory.specs.Spans.{Span, Target, span_end, InSpan, span_tests}
 
 -- all of the range lies in the span; a + k is a number without bound, since "addresses never wrap"
 unfoldable pub holds_range : Span → ℕ → ℕ → Bool
@@ -26,15 +20,6 @@ fetch_refusal t a k = tried (span_tests t ++ ((nat_lt 0 k && not (readable t a k
 -- what `of` makes of "whichever span holds them", the k bytes at a, and `none` where neither does
 abbrev pub whichever : {A : Type 0} → Target → ℕ → ℕ → (Span → A) → A → A
 whichever t a k of none = cond (holds_range t.image a k) (of t.image) (cond (holds_range t.work a k) (of t.work) none)
-
--- M-102: "how many bytes lie from the asked address to the end of the span that holds it (0 if none does, and with 12
--- and 13)". "It is a count, since the address after a span may be 2^64."
-unfoldable pub readable_from : Target → ℕ → ℕ
-readable_from t a = cond (spans_refusal t == 0) (whichever t a 1 (λ s. span_end s - a) 0) 0
-
--- "an entry beside it, which lends nothing, gives the number"; M-102: it "also answers how many bytes lie .."
-abbrev pub fetch_check : Target → ℕ → ℕ → FetchCheck
-fetch_check t a k = record { refusal = fetch_refusal t a k; readable = readable_from t a }
 
 -- the bytes of a span from the address a on, and the first k of them
 abbrev pub bytes_from : ℕ → Span → List ℕ

@@ -3,7 +3,7 @@
 ghost use Rattle.std.specs.Prelude.{◌≡◌, ◌+◌, ◌-◌, ◌≤◌, min, true, ◌≢◌, length};
 ghost use Rattle.memory.specs.Spans.{span, target, ends_past, share_address, spans_refusal};
 ghost use Rattle.memory.specs.Joining.Holding.{cleared, held_at};
-ghost use Rattle.memory.specs.Fetch.{readable_from, fetch_check, fetched, rest_of};
+ghost use Rattle.memory.specs.Fetch.{fetch_refusal, fetched, rest_of};
 ghost use Rattle.memory.specs.FirstZero.{sought_of, searched};
 ghost use Rattle.memory.specs.Joining.Searching.{Looked, Passed};
 
@@ -12,30 +12,30 @@ ghost use Rattle.memory.specs.Joining.Searching.{Looked, Passed};
 // own, which other spans do not enter. Without a store the compiler makes both tests of every span.
 
 // Whether first address + length exceeds 2^64: the sum modulo 2^64 is then below `first`, and not 0.
-fn ends_past(first: u64, bytes: &[u8], place: &mut [u64; 3]) -> bool
+fn ends_past(first: u64, bytes: &[u8], place: &mut [u64; 2]) -> bool
     ensures { (result ≡ ends_past (span first bytes.now)) × (result ≡ true → place.new ≡ cleared) }
 {
     let end = std::num::wrapping_add_u64(first, bytes.len() as u64);
     if end < first {
-        *place = [0, 0, 0];
+        *place = [0, 0];
         return end != 0;
     }
     false
 }
 
 // Whether the bytes s at f and the bytes r at g share an address.
-fn share_address(f: u64, s: &[u8], g: u64, r: &[u8], place: &mut [u64; 3]) -> bool
+fn share_address(f: u64, s: &[u8], g: u64, r: &[u8], place: &mut [u64; 2]) -> bool
     ensures { (result ≡ share_address (span f s.now) (span g r.now)) × (result ≡ true → place.new ≡ cleared) }
 {
     if f <= g {
         if g - f < s.len() as u64 {
-            *place = [0, 0, 0];
+            *place = [0, 0];
             return 0 < r.len();
         }
         return false;
     }
     if f - g < r.len() as u64 {
-        *place = [0, 0, 0];
+        *place = [0, 0];
         return 0 < s.len();
     }
     false
@@ -47,7 +47,7 @@ pub fn spans_refusal_clearing(
     image: &[u8],
     work_first: u64,
     work: &[u8],
-    place: &mut [u64; 3],
+    place: &mut [u64; 2],
 ) -> u8
     ensures number { result ≡ spans_refusal (target image_first image.now work_first work.now) }
     ensures clears { result ≢ 0 → place.new ≡ cleared }
@@ -68,18 +68,11 @@ pub fn spans_refusal_clearing(
 pub fn spans_refusal(image_first: u64, image: &[u8], work_first: u64, work: &[u8]) -> u8
     ensures { result ≡ spans_refusal (target image_first image.now work_first work.now) }
 {
-    let mut place = [0, 0, 0];
+    let mut place = [0, 0];
     spans_refusal_clearing(image_first, image, work_first, work, &mut place)
 }
 
 // ---- what is read
-
-// So many bytes at an address.
-#[derive(Drop)]
-pub struct Range {
-    pub address: u64,
-    pub size: u64,
-}
 
 // The span that holds an address, with the index of its byte there.
 #[derive(Drop)]
@@ -125,58 +118,26 @@ pub fn rest<'a>(
     }
 }
 
-// How many bytes lie from `address` to the end of the span that holds it; 0 where none does.
-pub fn readable_from<'a>(
-    image_first: u64,
-    image: &'a [u8],
-    work_first: u64,
-    work: &'a [u8],
-    address: u64,
-) -> u64
-    requires { spans_refusal (target image_first image.now work_first work.now) ≡ 0 }
-    ensures { result ≡ readable_from (target image_first image.now work_first work.now) address }
-{
-    let rest = rest(image_first, image, work_first, work, address);
-    rest.len() as u64
-}
-
-// The number of a fetch's refusal, or 0, and how many bytes can be read from the address on, which 12 and 13 do not
-// tell.
-#[derive(Drop)]
-pub struct FetchCheck {
-    pub refusal: u8,
-    pub readable: u64,
-}
-
-// Whether `fetch` is refused: 12, 13 or 19.
-pub fn check_fetch<'a>(
+// Why `fetch` lends nothing: 12, 13 or 19, or 0 where it is not refused.
+pub fn fetch_refusal<'a>(
     image_first: u64,
     image: &'a [u8],
     work_first: u64,
     work: &'a [u8],
     address: u64,
     size: u64,
-) -> FetchCheck
-    ensures { result ≡ fetch_check (target image_first image.now work_first work.now) address size }
+) -> u8
+    ensures { result ≡ fetch_refusal (target image_first image.now work_first work.now) address size }
 {
     let refusal = spans_refusal(image_first, image, work_first, work);
     if refusal != 0 {
-        return FetchCheck {
-            refusal,
-            readable: 0,
-        };
+        return refusal;
     }
-    let readable = readable_from(image_first, image, work_first, work, address);
-    if readable < size {
-        return FetchCheck {
-            refusal: refusals::RANGE_NOT_READABLE,
-            readable,
-        };
+    let rest = rest(image_first, image, work_first, work, address);
+    if (rest.len() as u64) < size {
+        return refusals::RANGE_NOT_READABLE;
     }
-    FetchCheck {
-        refusal: 0,
-        readable,
-    }
+    0
 }
 
 // The `size` bytes at `address`, in whichever span holds them all; an empty part where that is refused.
@@ -190,8 +151,8 @@ pub fn fetch<'a>(
 ) -> &'a [u8]
     ensures { result.now ≡ fetched (target image_first image.now work_first work.now) address size }
 {
-    let check = check_fetch(image_first, image, work_first, work, address, size);
-    if check.refusal != 0 {
+    let refusal = fetch_refusal(image_first, image, work_first, work, address, size);
+    if refusal != 0 {
         return &image[..0];
     }
     let rest = rest(image_first, image, work_first, work, address);

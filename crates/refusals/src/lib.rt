@@ -1,6 +1,6 @@
 // Refusals: document 01's numbers by name, and the one value by which every answer tells a refusal.
 ghost use Rattle.std.specs.Prelude.{◌≡◌};
-ghost use Rattle.refusals.specs.Refusal.{refusal, refusal_after, refusal_carrying};
+ghost use Rattle.refusals.specs.Refusal.{refusal, refusal_after};
 
 pub const EXPRESSION_SIZE: u8 = 1;
 
@@ -52,38 +52,32 @@ pub const NO_SUCH_FRAME: u8 = 24;
 
 pub const NO_SUCH_RECORD: u8 = 25;
 
-// Number, offset, steps done, and how many bytes could be read. The offset is 0 where a refusal has none, the steps are
-// 0 where nothing ran, the bytes are 0 unless the number is 19.
+// Number, offset and steps done. The offset is 0 where a refusal has none, the steps are 0 where nothing ran.
 #[derive(Drop)]
 pub struct Refusal {
     pub number: u8,
     pub offset: usize,
     pub steps: u64,
-    pub readable: u64,
 }
 
 // A refusal of what did not run.
 pub fn refusal_at(number: u8, offset: usize) -> Refusal
     ensures { result ≡ refusal number offset }
 {
-    refusal_after(number, offset, 0)
+    Refusal {
+        number,
+        offset,
+        steps: 0,
+    }
 }
 
 // A refusal of what ran so many steps.
 pub fn refusal_after(number: u8, offset: usize, steps: u64) -> Refusal
     ensures { result ≡ refusal_after number offset steps }
 {
-    refusal_carrying(number, offset, steps, 0)
-}
-
-// A refusal that carries how many bytes could be read.
-pub fn refusal_carrying(number: u8, offset: usize, steps: u64, readable: u64) -> Refusal
-    ensures { result ≡ refusal_carrying number offset steps readable }
-{
     Refusal {
         number,
         offset,
         steps,
-        readable,
     }
 }

@@ -8,15 +8,13 @@ use Rattle.text_buffer.specs.Text.{bytes_of}
 use Rattle.instruction_text.specs.Names.{names, name_of}
 use Rattle.instruction_text.specs.Text.{operand_text, named_at, is_instruction, plain_at}
 use Rattle.sizes.specs.Sizes.{buffer_most}
-use Rattle.refusals.specs.Numbers.{spans_share, divisor_zero, range_not_readable}
-use Rattle.refusals.specs.Refusal.{refusal, refusal_after, refusal_carrying}
-use Rattle.memory.specs.Fetch.{range}
+use Rattle.refusals.specs.Numbers.{spans_share, divisor_zero}
+use Rattle.refusals.specs.Refusal.{refusal, refusal_after}
 use Rattle.machine.specs.Machine.{no_value, top, top_and_beneath}
 use Rattle.runner.specs.Returned.{completed_with, refused_with}
 use Rattle.phrases.specs.Numbers.{count_text, hex_text, significant, signed_text, other_reading, value_text}
 use Rattle.phrases.specs.Refused.{refused_at}
 use Rattle.run_lines.specs.Outcome.{steps_text, cells_text, completed_by, fits_line, is_narrow, completed_text, is_of_instruction, instruction_line, refused_text, outcome_text, change_by, change_text, buffer_text}
-use Rattle.run_lines.specs.Shortage.{is_tracenz, asked_text, readable_text, short_text}
 use Rattle.run_lines.specs.Notes.{note_at, replaced_text, discarded_text}
 
 -- no value, the top, the top and the cell beneath
@@ -40,21 +38,6 @@ a_refused_run = refl
 a_refused_input : outcome_text (0x27 ∷ []) (refused_with (refusal spans_share 0)) ≡ bytes_of "refused 13 at offset 0 after 0 steps: the two memory spans overlap\n"
 unfolding decimal_by decimal count_text refused_at steps_text is_of_instruction instruction_line refused_text outcome_text
 a_refused_input = refl
-
--- refusal 19: a range cut short, one that no span holds, and a zero byte looked for; and another refusal
-short_ranges :
-    short_text (0x0d ∷ 0x04 ∷ []) (refusal_carrying range_not_readable 0 1 3) (range 4096 4)
-    ∷ short_text (0x17 ∷ []) (refusal_after range_not_readable 0 1) (range 4099 1)
-    ∷ short_text (0x2f ∷ []) (refusal_carrying range_not_readable 0 2 1) (range 4098 3)
-    ∷ short_text (0x05 ∷ []) (refusal_after divisor_zero 0 2) (range 0 0)
-    ∷ []
-    ≡ bytes_of "  asked: 4 bytes at 0000000000001000\n  readable from there: 3 bytes\n"
-    ∷ bytes_of "  asked: 1 byte at 0000000000001003\n  readable from there: none, no span holds that address\n"
-    ∷ bytes_of "  asked: up to 3 bytes at 0000000000001002\n  readable from there: 1 byte, no zero among them\n"
-    ∷ []
-    ∷ []
-unfolding decimal_by decimal count_text hex_text is_tracenz asked_text readable_text short_text
-short_ranges = refl
 
 a_change : change_text 3 0 42 ≡ bytes_of "  variable 3: 0 (0x0) -> 42 (0x2a)\n"
 unfolding decimal_by decimal hex_text significant other_reading value_text fits_line change_by change_text

@@ -1,5 +1,4 @@
 -- The definitions of `run_lines`. What is proved of them: proofs/Promises.antt.
 pub mod Outcome
-pub mod Shortage
 pub mod Notes
 mod Examples

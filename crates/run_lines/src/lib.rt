@@ -7,7 +7,6 @@ ghost use Rattle.runner.specs.Returned.{answer_of, returned_by};
 ghost use Rattle.run_lines.specs.Outcome.{steps_text, cells_text, completed_by, fits_line, is_narrow, completed_text, is_of_instruction, instruction_line, refused_text, outcome_text, change_by, change_text, buffer_text};
 
 pub mod notes;
-pub mod shortage;
 
 use instruction_text::writing::{append_plain, is_instruction};
 use phrases::numbers::{append_count, append_value};

@@ -6,9 +6,9 @@
 //   BYTES       also `+N`: byte i is (i * 13 + 1) mod 251 + 1; or `+N,I`: the same but byte I is 0
 //   LENGTH      of the buffer; byte i is (i * 7 + 3) mod 256 before the run
 //   ALLOWANCE   a number, or `default` for the entry without one
-// An outcome is `completed STEPS ANSWER USED VARS SUM HEAD` or `refused NUMBER OFFSET STEPS READABLE USED
-// VARS SUM HEAD`: READABLE is what refusal 19 carries, SUM is the FNV-1a hash of the buffer, and HEAD its
-// first 32 bytes from the used length given on. A line that is no case has the answer `bad line`.
+// An outcome is `completed STEPS ANSWER USED VARS SUM HEAD` or `refused NUMBER OFFSET STEPS USED VARS
+// SUM HEAD`: SUM is the FNV-1a hash of the buffer, and HEAD its first 32 bytes from the used length
+// given on. A line that is no case has the answer `bad line`.
 mod fields;
 mod inputs;
 mod text;

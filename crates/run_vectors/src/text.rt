@@ -88,8 +88,7 @@ fn append_refused(out: &mut [u8], refusal: Refusal, used: usize) -> usize
     let a = append_number(out, start, b' ', encoding::wide(refusal.number));
     let b = append_number(out, a, b' ', refusal.offset as u64);
     let c = append_number(out, b, b' ', refusal.steps);
-    let d = append_number(out, c, b' ', refusal.readable);
-    append_number(out, d, b' ', used as u64)
+    append_number(out, c, b' ', used as u64)
 }
 
 // `used` is the used length given: a refusal leaves it.

@@ -10,10 +10,9 @@ use Rattle.sizes.specs.Sizes.{buffer_most}
 use Rattle.refusals.specs.declared.Refusal.{Refusal}
 use Rattle.refusals.specs.Numbers.{allowance_spent}
 use Rattle.encoding.specs.Written.{written_at}
-use Rattle.frames.specs.Record.{Record, encode_all}
+use Rattle.frames.specs.Record.{encode_all}
 use Rattle.verdict.specs.Verdict.{accepted, verdict}
 use Rattle.machine.specs.Given.{Given}
-use Rattle.machine.specs.Machine.{stopped}
 use Rattle.machine.specs.Run.{ended, steps_of}
 use Rattle.machine.specs.Recorded.{AllFromTarget, records_of, frame_of}
 use Rattle.machine.proofs.Promises.{records_from_target}
@@ -48,10 +47,6 @@ module _ {g : Given} {r : Outcome} {v b : List ℕ} (ran : Ran g r v b) where
   -- ---- R4: a refused run leaves the variables as given, and in the buffer the records completed and no other byte
   pub refused_leaves : {x : Refusal} → r ≡ Refused x → (v ≡ g.variables) × (b ≡ written_at g.buffer g.used (encode_all (records_of (ended g))))
   refused_leaves = reporting.refused_leaves ran
-
-  -- ---- a refused run tells the machine's whole refusal: number, offset, steps, and what it carries (M-102)
-  pub refused_machine : {x : Refusal} → r ≡ Refused x → (rs : List Record) × (ended g ≡ stopped x rs)
-  refused_machine = reporting.refused_machine ran
 
   module _ (a : Value) {s w : ℕ} (q : r ≡ Completed a s w) where
     -- a completed run leaves one frame of its records and no other byte, and the used length grows by exactly that

@@ -9,7 +9,7 @@ use Rattle.sizes.specs.Sizes.{buffer_most}
 use Rattle.refusals.specs.declared.Refusal.{Refusal}
 use Rattle.refusals.specs.Numbers.{allowance_spent}
 use Rattle.encoding.specs.Written.{written_at}
-use Rattle.frames.specs.Record.{Record, encode_all}
+use Rattle.frames.specs.Record.{encode_all}
 use Rattle.frames.specs.Trailer.{tag_of}
 use Rattle.frames.proofs.Promises.{frame_length}
 use Rattle.verdict.specs.Verdict.{accepted, verdict}
@@ -38,11 +38,6 @@ module _ (g : Given) where
   unfolding returned number_of
   number_by (completed x k v rs) p = never p
   number_by (stopped x rs) p = cc
-
-  stopped_by : {y : Refusal} (o : Ended) → returned_by (Refused y) ≡ returned g o → (rs : List Record) × (o ≡ stopped y rs)
-  unfolding returned
-  stopped_by (completed x k v rs) p = never p
-  stopped_by {y} (stopped x rs) p = let e : x ≡ y = cc in (rs, ap (λ (z : Refusal). stopped z rs) e)
 
   pub refused_by : {y : Refusal} (o : Ended) → returned_by (Refused y) ≡ returned g o
       → (variables_of g o ≡ g.variables) × (buffer_of g o ≡ written_at g.buffer g.used (encode_all (records_of o)))
@@ -76,9 +71,6 @@ module _ {g : Given} {r : Outcome} {v b : List ℕ} (ran : Ran g r v b) where
 
   pub allowance_enough : {n h l : ℕ} → verdict g.expression ≡ accepted n h l → l ≤ g.allowance → {x : Refusal} → r ≡ Refused x → x.number ≢ allowance_spent
   allowance_enough p h q z = machine.allowance_enough g p h (number_by g (ended g) (ap returned_by (sym q) ∙ ran.answer) ∙ z)
-
-  pub refused_machine : {x : Refusal} → r ≡ Refused x → (rs : List Record) × (ended g ≡ stopped x rs)
-  refused_machine q = stopped_by g (ended g) (ap returned_by (sym q) ∙ ran.answer)
 
   pub refused_leaves : {x : Refusal} → r ≡ Refused x → (v ≡ g.variables) × (b ≡ written_at g.buffer g.used (encode_all (records_of (ended g))))
   refused_leaves q =

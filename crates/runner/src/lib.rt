@@ -80,8 +80,7 @@ fn copy_if(to: &mut [u64; sizes::VARIABLE_COUNT], from: &[u64; sizes::VARIABLE_C
 // A run of an accepted expression on inputs that 12 to 15 allow, on the variables themselves. What is left of the
 // allowance is counted down, so that one machine instruction both counts and tests. Where a step stops, its answer has
 // the offset and the end of what is written as they were: so they are taken before `stop` is tested. The value is taken
-// last, so that the caller need not ask again which kind it is. A refusal leaves the height of the stack in
-// `stop_height`: the caller finds what it carries, so that no step pays for that.
+// last, so that the caller need not ask again which kind it is.
 fn follow<'a>(
     rows: &[[u8; 4]; 53],
     code: &[u8],
@@ -96,16 +95,14 @@ fn follow<'a>(
     used: usize,
     tracepoint: u16,
     allowance: u64,
-    stop_height: &mut usize,
 ) -> Outcome
     requires { (rows.now ≡ table) × IsAccepted code.now × (spans_refusal (target image_first image.now work_first work.now) ≡ 0) × (used ≤ length buffer.old) × (length buffer.old ≤ 65536) × (length cells.old ≡ 64) }
-    ensures { RanInPlace (given code.now registers.now variables.old (target image_first image.now work_first work.now) tracepoint buffer.old used allowance) result cells.new stop_height.new variables.new buffer.new }
+    ensures { RanInPlace (given code.now registers.now variables.old (target image_first image.now work_first work.now) tracepoint buffer.old used allowance) result variables.new buffer.new }
 {
     let mut height = 0;
     let mut at = 0;
     let mut put = used;
     let mut left = allowance;
-    let mut stop = refusals::ALLOWANCE_SPENT;
     while 0 < left {
         let next = stepping::step(
             rows,
@@ -126,26 +123,26 @@ fn follow<'a>(
         height = next.height;
         put = next.put;
         if next.stop != 0 {
-            stop = next.stop;
-            break;
+            let steps = allowance - left;
+            let counted = steps + 1;
+            if next.stop == 1 {
+                close_frame(buffer, put, tracepoint, put - used);
+                let length = put + frames::trailer::TRAILER_SIZE;
+                let value = value_of(cells, height);
+                return Outcome::Completed(value, counted, length);
+            }
+            let refusal = refusals::refusal_after(next.stop, at, steps);
+            return Outcome::Refused(refusal);
         }
         left -= 1;
     }
     let steps = allowance - left;
-    if stop == 1 {
-        close_frame(buffer, put, tracepoint, put - used);
-        let length = put + frames::trailer::TRAILER_SIZE;
-        let counted = steps + 1;
-        let value = value_of(cells, height);
-        return Outcome::Completed(value, counted, length);
-    }
-    *stop_height = height;
-    let refusal = refusals::refusal_after(stop, at, steps);
+    let refusal = refusals::refusal_after(refusals::ALLOWANCE_SPENT, at, steps);
     Outcome::Refused(refusal)
 }
 
-// The same, which leaves the variables as given where it is refused, and finds what the refusal carries. Where no
-// variable is set, they are as given: so they are neither copied nor put back.
+// The same, which leaves the variables as given where it is refused. Where no variable is set, they are as given: so
+// they are neither copied nor put back.
 fn run_accepted<'a>(
     rows: &[[u8; 4]; 53],
     code: &[u8],
@@ -169,7 +166,6 @@ fn run_accepted<'a>(
         kept: [0u64; sizes::VARIABLE_COUNT],
     };
     copy_if(&mut own.kept, variables, sets);
-    let mut height = 0;
     let outcome = follow(
         rows,
         code,
@@ -184,26 +180,12 @@ fn run_accepted<'a>(
         used,
         tracepoint,
         allowance,
-        &mut height,
     );
     match outcome {
         Outcome::Completed(_, _, _) => outcome,
-        Outcome::Refused(refusal) => {
+        Outcome::Refused(_) => {
             copy_if(variables, &own.kept, sets);
-            let readable = asking::readable_with(
-                refusal.number,
-                code,
-                image_first,
-                image,
-                work_first,
-                work,
-                &own.stack.cells,
-                refusal.offset,
-                height,
-            );
-            let number = refusal.number;
-            let whole = refusals::refusal_carrying(number, refusal.offset, refusal.steps, readable);
-            Outcome::Refused(whole)
+            outcome
         }
     }
 }

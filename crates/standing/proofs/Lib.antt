@@ -1,4 +1,2 @@
--- `Promises` is the page for users of this crate; the others hold the work behind it.
-pub mod Promises
+-- The work behind the contracts.
 pub mod Telling
-pub mod Stopping

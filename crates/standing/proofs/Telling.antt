@@ -9,9 +9,7 @@ use Rattle.isa.specs.Joining.Held.{held}
 use Rattle.refusals.specs.declared.Refusal.{Refusal}
 use Rattle.verdict.specs.Verdict.{accepted, refused, verdict}
 use Rattle.verdict.specs.Acceptance.{Accepted}
-use Rattle.memory.specs.declared.Range.{Range}
 use Rattle.machine.specs.Given.{Given, begin}
-use Rattle.machine.specs.Asked.{asked}
 use Rattle.machine.specs.Machine.{Ended, Standing, stands, over}
 use Rattle.machine.specs.Run.{input_refusal, begun}
 use Rattle.machine.specs.Standing.{standing_from}
@@ -39,17 +37,17 @@ cells_are a h p = from_bottom a h [] p ∙ append-nil (take h a)
 -- ---- the run has ended
 over_told : (g : Given) {s : Standing} {o : Ended} {a v b : List ℕ} → s ≡ over o → length a ≡ 64 → StandsIn g s Over a v b
 unfolding seen
-over_told g p l = record { tells = rw p refl; within = λ k h x q. absurd (let z : ◌≡◌ {A = ℕ} 0 1 = cc in omega arith); long = l }
+over_told g p l = record { tells = rw p refl; within = λ k h q. absurd (let z : ◌≡◌ {A = ℕ} 0 1 = cc in omega arith); long = l }
 
 module _ {m : Given} {c₀ g₀ l₀ : ℕ} (acc : Accepted m.expression c₀ g₀ l₀) {v b a : List ℕ} {h k p n : ℕ} (l : Loop m v b a h k p n) where
   -- all steps are done
-  pub stands_at : m.allowance ≡ n → {x : Range} → x ≡ asked m.expression k (held a h) → Advanced m (At k h x) a v b
+  pub stands_at : m.allowance ≡ n → Advanced m (At k h) a v b
   unfolding seen
-  stands_at e {x} r = record {
+  stands_at e = record {
     tells =
-        let here : seen_by (At k h x) a v b ≡ seen m (stands (state k (held a h) v l.records n)) = rw (cells_are a h (omega (arith, low acc l, l.long)), l.laid, r) refl in
+        let here : seen_by (At k h) a v b ≡ seen m (stands (state k (held a h) v l.records n)) = rw (cells_are a h (omega (arith, low acc l, l.long)), l.laid) refl in
         here ∙ ap (seen m) (sym (ap (standing_from m (stands (begin m))) e ∙ l.same));
-    within = λ i j _ q.
+    within = λ i j q.
         let x : k ≡ i = cc in let y : h ≡ j = cc in
         (omega (arith, (walk_ready acc l.walk).inside), omega (arith, low acc l));
     long = l.long;

@@ -1,39 +1,35 @@
 -- What is seen of the machine after so many moves (document 01, "Running": "it holds an offset, a stack, the variables,
--- the records made and the steps done"), and what the instruction there asks of target memory (M-102).
+-- the records made and the steps done").
 use Rattle.std.specs.Prelude.{List, reverse, ◌≡◌, ℕ, ◌≤◌, ◌<◌, length, take}
 use Rattle.sizes.specs.Sizes.{stack_cells}
 use Rattle.encoding.specs.Written.{written_at}
 use Rattle.frames.specs.Record.{encode_all}
-use Rattle.memory.specs.declared.Range.{Range}
 use Rattle.machine.specs.Given.{Given}
-use Rattle.machine.specs.Asked.{asked}
 use Rattle.machine.specs.Machine.{Standing, stands, over}
 use Rattle.machine.specs.Standing.{standing}
 use Rattle.standing.specs.declared.Stood.{Stood}
 use Rattle.standing.specs.declared.Stood.TheVariants.{At, Over}
 
 pub data Seen : Type 0 where
-  -- the offset, the stack from the bottom on, the variables, the buffer, the range asked for
-  at : ℕ → List ℕ → List ℕ → List ℕ → Range → Seen
+  -- the offset, the stack from the bottom on, the variables, the buffer
+  at : ℕ → List ℕ → List ℕ → List ℕ → Seen
   -- the machine has ended
   no_longer : Seen
 
 -- the records made so far stand in the buffer from the used length on, and every other byte is as given
 unfoldable pub seen : Given → Standing → Seen
-seen g (stands st) =
-    at st.offset (reverse st.stack) st.variables (written_at g.buffer g.used (encode_all st.records))
-    (asked g.expression st.offset st.stack)
+seen g (stands st) = at st.offset (reverse st.stack) st.variables (written_at g.buffer g.used (encode_all st.records))
 seen g (over o) = no_longer
 
 -- as the code tells it, with the cells a, the variables v and the buffer b that it leaves
 abbrev pub seen_by : Stood → List ℕ → List ℕ → List ℕ → Seen
-seen_by (At k h q) a v b = at k (take h a) v b q
+seen_by (At k h) a v b = at k (take h a) v b
 seen_by Over a v b = no_longer
 
 -- the code tells that the machine stands as s. The height is within the cells, and the offset within the expression.
 pub record StandsIn (g : Given) (s : Standing) (r : Stood) (a v b : List ℕ) : Type 0 where
   pub tells : seen_by r a v b ≡ seen g s
-  pub within : (k h : ℕ) (q : Range) → r ≡ At k h q → (k < length g.expression) × (h ≤ stack_cells)
+  pub within : (k h : ℕ) → r ≡ At k h → (k < length g.expression) × (h ≤ stack_cells)
   pub long : length a ≡ stack_cells
 
 -- where the machine stands once its allowance is spent: after as many moves, if it has not ended by then

@@ -1,5 +1,4 @@
-// Where a run stands after so many steps, for listings: offset, stack, variables and the records made so far; and what
-// the instruction there asks of target memory, for whoever explains refusal 19.
+// Where a run stands after so many steps, for listings: offset, stack, variables and the records made so far.
 ghost use Rattle.std.specs.Prelude.{◌≡◌, ℕ, ◌≤◌, length};
 ghost use Rattle.isa.specs.Joining.Rows.{table};
 ghost use Rattle.memory.specs.Spans.{target, spans_refusal};
@@ -9,14 +8,13 @@ ghost use Rattle.standing.specs.Seen.{Stands};
 ghost use Rattle.standing.specs.Joining.Advancing.{Advanced};
 
 use isa::Stack;
-use memory::Range;
 use verdict::Verification;
 
-// At: the offset, the height of the stack, whose cells the caller's array holds, the bottom first, and the range that
-// the instruction asks for. Over: the run has completed or was refused before so many steps were done.
+// At: the offset, and the height of the stack, whose cells the caller's array holds, the bottom first. Over: the run
+// has completed or was refused before so many steps were done.
 #[derive(Drop)]
 pub enum Stood {
-    At(usize, usize, Range),
+    At(usize, usize),
     Over,
 }
 
@@ -66,8 +64,7 @@ fn advance<'a>(
         }
         left -= 1;
     }
-    let range = asking::range_asked(code, cells, at, height);
-    Stood::At(at, height, range)
+    Stood::At(at, height)
 }
 
 // Where the run of these inputs stands after so many steps. Cells, variables and buffer are the caller's to lend for

@@ -20,9 +20,10 @@ use Rattle.frames.specs.Trailer.{trailer_size}
 use Rattle.frames.proofs.Promises.{encode_all_append}
 use Rattle.verdict.specs.Acceptance.{Accepted, Ready}
 use Rattle.verdict.specs.Verdict.{SetsNothing}
+use Rattle.refusals.specs.Refusal.{refusal_after}
 use Rattle.machine.specs.Given.{Given, fixed_of, State, begin}
 use Rattle.machine.specs.Meaning.{Done, leaves, faults, done, stack_after, variables_after, offset_after}
-use Rattle.machine.specs.Machine.{answer, Ended, completed, stopped, Standing, stands, over, refusal_at, moved_by}
+use Rattle.machine.specs.Machine.{answer, Ended, completed, stopped, Standing, stands, over, moved_by}
 use Rattle.machine.specs.Standing.{next, standing_from}
 use Rattle.machine.proofs.Promises.{OnWalk, walk_begins, walk_ready, walk_moves, walk_faults, unset_variables, end_done_lem, end_room}
 use Rattle.operations.specs.Joining.Here.{StepReady}
@@ -33,13 +34,13 @@ abbrev pub state : ℕ → List ℕ → List ℕ → List Record → ℕ → Sta
 state k s v rs n = record { offset = k; stack = s; variables = v; records = rs; steps = n }
 
 -- where one move leads, by its effect
-abbrev pub stood : Given → State → Effect → Standing
-stood m st (goes k s v rs) = stands (state k s v (st.records ++ rs) (st.steps + 1))
-stood m st completes = over (completed (answer st.stack) (st.steps + 1) st.variables st.records)
-stood m st (refuses n) = over (stopped (refusal_at m st n) st.records)
+abbrev pub stood : State → Effect → Standing
+stood st (goes k s v rs) = stands (state k s v (st.records ++ rs) (st.steps + 1))
+stood st completes = over (completed (answer st.stack) (st.steps + 1) st.variables st.records)
+stood st (refuses n) = over (stopped (refusal_after n st.offset st.steps) st.records)
 
 stood_by : (m : Given) (st : State) (d : Done) (b : Bool) → eqb (kind_at m.expression st.offset) kind_end ≡ b
-    → moved_by m st d ≡ stood m st (effect_of m.expression st.offset st.stack st.variables d)
+    → moved_by m st d ≡ stood st (effect_of m.expression st.offset st.stack st.variables d)
 stood_by m st (leaves cells rs) true q = rw (q, moved_by) refl
 stood_by m st (leaves cells rs) false q = rw (q, moved_by) refl
 stood_by m st (faults n) b q = refl
@@ -80,13 +81,13 @@ module _ {m : Given} {v b a : List ℕ} {h k p n : ℕ} (l : Loop m v b a h k p 
   as_long = ap length l.laid ∙ written_length m.buffer m.used (encode_all l.records)
 
   -- one move of the machine, with the code's own count of the free bytes
-  pub followed : {e : Effect} → effect (fixed_of m) k (held a h) v (length b - p) ≡ e → standing_from m (stands (begin m)) (n + 1) ≡ stood m (state k (held a h) v l.records n) e
+  pub followed : {e : Effect} → effect (fixed_of m) k (held a h) v (length b - p) ≡ e → standing_from m (stands (begin m)) (n + 1) ≡ stood (state k (held a h) v l.records n) e
   unfolding standing_from effect
   followed q =
       let i : n + 1 ≡ suc n = omega arith in
       let f : length m.buffer - m.used - length (encode_all l.records) ≡ length b - p = omega (arith, l.put, as_long) in
       rw i (ap (next m) l.same ∙ rw f (stood_by m (state k (held a h) v l.records n) (done (fixed_of m) k (held a h) v (length b - p)) (eqb (kind_at m.expression k) kind_end) refl))
-      ∙ ap (stood m (state k (held a h) v l.records n)) q
+      ∙ ap (stood (state k (held a h) v l.records n)) q
 
   -- where no instruction is a setv, what goes on has the same variables
   unset_at : SetsNothing m.expression → variables_after m.expression k (held a h) v ≡ v

@@ -15,8 +15,7 @@ abbrev same : Verdict → Verdict → Bool
 same (accepted n g l) (accepted m h k) = eqb n m && eqb g h && eqb l k
 same (accepted n g l) (refused x) = false
 same (refused x) (accepted n g l) = false
-same (refused x) (refused y) =
-    eqb x.number y.number && eqb x.offset y.offset && eqb x.steps y.steps && eqb x.readable y.readable
+same (refused x) (refused y) = eqb x.number y.number && eqb x.offset y.offset && eqb x.steps y.steps
 
 -- n conditional jumps from offset i on, each to the next start, then end: 2 to the power of n walks to the end, all of
 -- one length

@@ -5,10 +5,10 @@ use crate::memory::Span;
 use crate::random::Random;
 
 /// First address and length of each of two spans.
-pub type Layout = [(u64, usize); 2];
+type Layout = [(u64, usize); 2];
 
 /// 2^64 less so many.
-pub const fn below_top(count: u64) -> u64 {
+const fn below_top(count: u64) -> u64 {
     0_u64.wrapping_sub(count)
 }
 
@@ -112,7 +112,7 @@ fn spans(random: &mut Random, mut layout: Layout) -> [Span; 2] {
 }
 
 /// Where the span ends, modulo 2^64.
-pub fn end((first, length): (u64, usize)) -> u64 {
+fn end((first, length): (u64, usize)) -> u64 {
     first.wrapping_add(length as u64)
 }
 

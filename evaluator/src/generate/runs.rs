@@ -9,7 +9,7 @@ mod scene;
 mod writer;
 mod zeros;
 
-use super::{ends, many, mutate, structured};
+use super::{many, mutate, structured};
 use crate::random::Random;
 pub use crate::runs::Case;
 use writer::Writer;
@@ -36,7 +36,6 @@ pub fn cases(family: impl Fn(u64) -> Random) -> Vec<Case> {
         many(&mut family(15), 200, wild),
         many(&mut family(16), 150, mutated),
         many(&mut family(18), 90, directed::shift),
-        ends::runs(),
     ];
     all.concat()
 }

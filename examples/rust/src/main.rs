@@ -21,13 +21,6 @@ fn verify(what: &str, expression: &[u8]) {
     }
 }
 
-/// Behind the words of a refusal: of a range that cannot be read, how much could be.
-fn print_readable(refusal: Refusal, readable: u64) {
-    if refusal == Refusal::RangeNotReadable {
-        println!("  bytes that could be read from its start on: {readable}");
-    }
-}
-
 fn print_outcome(outcome: Result<Completed, Stopped>) {
     match outcome {
         Ok(c) => {
@@ -38,16 +31,13 @@ fn print_outcome(outcome: Result<Completed, Stopped>) {
             };
             println!("  completed, steps {}{value}", c.steps);
         }
-        Err(s) => {
-            println!(
-                "  refused {} at offset {}, steps {}: {}",
-                s.refusal.number(),
-                s.offset,
-                s.steps,
-                s.refusal
-            );
-            print_readable(s.refusal, s.readable);
-        }
+        Err(s) => println!(
+            "  refused {} at offset {}, steps {}: {}",
+            s.refusal.number(),
+            s.offset,
+            s.steps,
+            s.refusal
+        ),
     }
 }
 
@@ -94,8 +84,7 @@ impl Unit<'_> {
         ));
     }
 
-    /// The records of a frame, each looked at once. The walk over them ends with a refusal: 25 where no record is
-    /// broken.
+    /// The records of a frame, each looked at once. The walk over them ends with a refusal: 25 where no record is broken.
     fn print_records(&self, frame: Frame) {
         let mut records = Records::of(self.buffer.bytes, frame);
         let mut count = 0;
@@ -148,11 +137,8 @@ impl Unit<'_> {
     fn fetch(&self, name: &str, address: u64, size: u64) {
         println!("fetch {size} bytes at {address}");
         match lilivrez::fetch(self.target.image, self.target.work, address, size) {
-            Ok(fetched) => println!("  {name}:{}", hex(fetched.bytes)),
-            Err(r) => {
-                println!("  refused {}: {}", r.refusal.number(), r.refusal);
-                print_readable(r.refusal, r.readable);
-            }
+            Ok(bytes) => println!("  {name}:{}", hex(bytes)),
+            Err(refusal) => println!("  refused {}: {refusal}", refusal.number()),
         }
     }
 }

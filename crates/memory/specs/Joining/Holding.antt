@@ -5,9 +5,9 @@ use Rattle.memory.specs.Fetch.{holds_range}
 use Rattle.memory.specs.declared.Held.{Held}
 use Rattle.memory.specs.declared.Held.TheVariants.{InImage, InWork, Nowhere}
 
--- a place of three numbers in which nothing is told
+-- a place of two numbers in which nothing is told
 abbrev pub cleared : List ℕ
-cleared = 0 ∷ 0 ∷ 0 ∷ []
+cleared = 0 ∷ 0 ∷ []
 
 -- the span that holds the address a, and the index of its byte there
 unfoldable pub held_at : Target → ℕ → Held

@@ -1,51 +1,100 @@
 use borrow.Author.Rules.{rules}
-use mathlib.Core.Logic.{⊎_elim}
 use mathlib.Core.Path.{◌≡◌, refl, ◌∙◌}
-use Prim.Native.Nat.{◌-◌, ◌≤◌}
+use Prim.Native.Nat.{◌-◌, ◌≤◌, ◌<◌}
 use native.Mathlib.Nat.{sub_self}
 use native.Mathlib.Omega.{arith}
-use Rattle.refusals.specs.Numbers.{allowance_spent}
+use lib.ListN.{length}
 use Rattle.memory.specs.Spans.{target}
 use Rattle.machine.specs.Given.{given}
-use Rattle.stepping.proofs.Promises.{Loop, loop_start, as_long, step_ready, still_left, one_less, turn}
-use Rattle.runner.proofs.Leaving.{Left, left_as, left_step, left_spent}
+use Rattle.stepping.proofs.Promises.{Loop, loop_start, as_long, step_ready, still_left, one_less, turn, room_left}
+use Rattle.runner.proofs.Leaving.{ends, halts, spent}
 use Rattle.runner.proofs.follow.Statement.{statement}
 use Rattle.runner.proofs.follow.Tie as tie
 
--- no turn changes `stop`: it is set where the loop is left
 abbrev invariant-loop : tie.invariant-loop
-invariant-loop rows code registers image-first image work-first work cells₀ variables₀ buffer₀ used tracepoint allowance stop-height height₀ at₀ put₀ left₀ stop₀ cells variables buffer height at put left stop =
-    (left ≤ allowance) × (stop ≡ allowance_spent)
-    × Loop (given code registers variables₀ (target image-first image work-first work) tracepoint buffer₀ used allowance) variables buffer cells height at put (allowance - left)
+invariant-loop rows code registers image-first image work-first work cells₀ variables₀ buffer₀ used tracepoint allowance height₀ at₀ put₀ left₀ cells variables buffer height at put left =
+    (left ≤ allowance) × Loop (given code registers variables₀ (target image-first image work-first work) tracepoint buffer₀ used allowance) variables buffer cells height at put (allowance - left)
 
 abbrev decreases-loop : tie.decreases-loop
-decreases-loop rows code registers image-first image work-first work cells₀ variables₀ buffer₀ used tracepoint allowance stop-height height₀ at₀ put₀ left₀ stop₀ cells variables buffer height at put left stop =
+decreases-loop rows code registers image-first image work-first work cells₀ variables₀ buffer₀ used tracepoint allowance height₀ at₀ put₀ left₀ cells variables buffer height at put left =
     left
 
--- what the loop starts from
-abbrev start : tie.At-loop invariant-loop decreases-loop → tie.Start invariant-loop decreases-loop
-start q = q.before.before.before.before.before.before
+abbrev Stepped : Type 0
+Stepped = tie.After-step invariant-loop decreases-loop
 
--- how the loop is left: the allowance is spent, or a step has stopped
-left_so : (c : tie.Left-loop invariant-loop decreases-loop) →
-    let a = (start c.before).args in let o = c.loop-test in
-    Left (given a.code.now a.registers.now a.variables.now (target a.image-first a.image.now a.work-first a.work.now) a.tracepoint a.buffer.now a.used a.allowance)
-    o.stop o.at o.height o.put (a.allowance - c.before.loop.left) o.cells o.variables o.buffer
-left_so c =
-    let q = c.before in let acc = (start q).requires.1.accepts in let i = q.loop.invariant in
-    ⊎_elim
-    (λ p. left_as (p.7 ∙ i.1) p.5 p.4 p.6 p.1 p.2 p.3 (left_spent acc i.2 (omega (arith, p.0.left, i.0))))
-    (λ p. left_as p.15 p.13 p.12 p.14 p.9 p.10 p.11
-    (left_step acc i.2 (still_left p.0.taken i.0) p.4.ensures p.8.taken p.4.kept.1.1.1.1.1.1.1.1.1.0))
-    c.loop-test.branch
+-- what every step starts from
+abbrev start : Stepped → tie.Start invariant-loop decreases-loop
+start t = t.before.before.before.before.before.before.before.before.before.before.before
+
+abbrev held-before : Stepped → tie.At-loop invariant-loop decreases-loop
+held-before t = t.before.before.before.before.before
 
 loop-holds : tie.Need-loop-init invariant-loop decreases-loop
-loop-holds c = let s = c.before.before.before.before.before in (omega arith, refl, loop_start s.requires.1.accepts s.requires.3 refl s.requires.5 (sub_self s.args.allowance))
+loop-holds c = let s = c.before.before.before.before.before in (omega arith, loop_start s.requires.1.accepts s.requires.3 refl s.requires.5 (sub_self s.args.allowance))
 
 step-requires : tie.Need-step-requires invariant-loop decreases-loop
 step-requires c κs =
-    let q = c.before.before.before.before in let s = start q in let l = q.loop.invariant.2 in
-    (step_ready s.pre.1.accepts l s.pre.0, (omega (arith, l.room, as_long l), s.pre.2))
+    let q = c.before.before.before.before in let s = q.before.before.before.before.before.before in
+    (step_ready s.requires.1.accepts q.loop.invariant.1 s.requires.0, (omega (arith, q.loop.invariant.1.room, as_long q.loop.invariant.1), s.requires.2))
+
+sub-steps : tie.Need-overflow-sub-steps invariant-loop decreases-loop
+sub-steps c = omega (arith, (held-before c.before.before.before.before).loop.inv.0)
+
+add-counted : tie.Need-overflow-add-counted invariant-loop decreases-loop
+add-counted c =
+    let t = c.before.before.before.before in
+    omega (arith, (start t).ranges.allowance, t.before.before.before.before.loop-test.true, (held-before t).loop.invariant.0)
+
+-- the step that an end follows
+abbrev ending : tie.Then2 invariant-loop decreases-loop → Stepped
+ending i = i.before.before.before.before.before.before
+
+sub-close-frame : tie.Need-overflow-sub-close-frame invariant-loop decreases-loop
+sub-close-frame c =
+    let i = c.before in let t = ending i in let v = (held-before t).loop.inv in
+    (room_left (start t).pre.1.accepts v.1 t.step.ensures i.if2.true).0
+
+close-frame-requires : tie.Need-close-frame-requires invariant-loop decreases-loop
+close-frame-requires c κs =
+    let i = c.before in let t = ending i in let v = (held-before t).loop.inv in
+    let e = room_left (start t).pre.1.accepts v.1 t.step.ensures i.if2.true in
+    (e.1, omega (arith, e, (start t).pre.4))
+
+add-length : tie.Need-overflow-add-length invariant-loop decreases-loop
+add-length c =
+    let i = c.before.before.before.before in let t = ending i in let v = (held-before t).loop.inv in
+    let e = room_left (start t).pre.1.accepts v.1 t.step.ensures i.if2.true in
+    omega (arith, e, (start t).pre.4)
+
+value-of-requires : tie.Need-value-of-requires invariant-loop decreases-loop
+value-of-requires c κs =
+    let i = c.before.before.before.before.before in let t = ending i in let v = (held-before t).loop.inv in
+    (room_left (start t).pre.1.accepts v.1 t.step.ensures i.if2.true).3
+
+same_length : tie.Need-same-length invariant-loop decreases-loop
+same_length c =
+    let f = c.before.before.before.before in let i = f.before.before in let t = ending i in let v = (held-before t).loop.inv in
+    f.close-frame.auto.0
+    ∙ (room_left (start t).pre.1.accepts v.1 t.step.ensures i.if2.true).2
+
+returns : tie.Need-returns invariant-loop decreases-loop
+returns c =
+    let f = c.before.before.before.before in let i = f.before.before in let t = ending i in let v = (held-before t).loop.inv in
+    ends (start t).pre.1.accepts v.1 (still_left t.before.before.before.before.loop-test.taken v.0) t.step.ensures i.if2.true
+    f.close-frame.ensures c.value_of_lem.ensures
+
+refusal-after-requires : tie.Need-refusal-after-requires invariant-loop decreases-loop
+refusal-after-requires c κs = search rules
+
+same-length-2 : tie.Need-same-length-2 invariant-loop decreases-loop
+same-length-2 c = let t = c.before.before.before.before.before.before.before in t.step.auto.1.1.1.1.1.1.1.1.1.0 ∙ as_long (held-before t).loop.invariant.1
+
+returns-2 : tie.Need-returns-2 invariant-loop decreases-loop
+returns-2 c =
+    let e = c.before in
+    let t = e.before.before.before.before.before.before in let i = (held-before t).loop.invariant in
+    halts (start t).requires.1.accepts i.1 (still_left t.before.before.before.before.loop-test.true i.0) t.step.ensures e.before.before.if1.true e.if2.false
+    c.refusal-after.ensures
 
 sub-left : tie.Need-overflow-sub-left invariant-loop decreases-loop
 sub-left c = search rules
@@ -55,54 +104,20 @@ loop-less c = omega arith
 
 loop-again : tie.Need-loop-preserved invariant-loop decreases-loop
 loop-again c =
-    let t = c.before.before.before.before in let some = t.before.before.before.before.loop-test.true in
-    let q = t.before.before.before.before.before in let i = q.loop.invariant in
-    (omega (arith, i.0), i.1, rw (← (one_less some i.0)) (turn (start q).requires.1.accepts i.2 t.step.ensures c.if1.false))
+    let t = c.before.before.before.before in let some = t.before.before.before.before.loop-test.true in let i = (held-before t).loop.invariant in
+    (omega (arith, i.0), rw (← (one_less some i.0)) (turn (start t).requires.1.accepts i.1 t.step.ensures c.if1.false))
 
-sub-steps : tie.Need-overflow-sub-steps invariant-loop decreases-loop
-sub-steps c = omega (arith, c.before.loop.invariant.0)
+sub-steps-2 : tie.Need-overflow-sub-steps-2 invariant-loop decreases-loop
+sub-steps-2 c = omega (arith, c.before.loop.invariant.0)
 
--- an end
-abbrev ended : tie.Then2 invariant-loop decreases-loop → tie.Left-loop invariant-loop decreases-loop
-ended i = i.before
+refusal-after-requires-2 : tie.Need-refusal-after-requires-2 invariant-loop decreases-loop
+refusal-after-requires-2 c κs = search rules
 
-sub-close-frame : tie.Need-overflow-sub-close-frame invariant-loop decreases-loop
-sub-close-frame c = let i = c.before.before in ((left_so (ended i)).room i.if2.true).0
+same-length-3 : tie.Need-same-length-3 invariant-loop decreases-loop
+same-length-3 c = as_long c.before.before.loop.invariant.1
 
-close-frame-requires : tie.Need-close-frame-requires invariant-loop decreases-loop
-close-frame-requires c κs =
-    let i = c.before.before in let w = left_so (ended i) in let e = w.room i.if2.true in
-    (e.1, omega (arith, e, w.long, (start (ended i).before).pre.4))
-
-add-length : tie.Need-overflow-add-length invariant-loop decreases-loop
-add-length c =
-    let i = c.before.before.before.before.before in let w = left_so (ended i) in
-    omega (arith, w.room i.if2.true, w.long, (start (ended i).before).pre.4)
-
-add-counted : tie.Need-overflow-add-counted invariant-loop decreases-loop
-add-counted c =
-    let i = c.before.before.before.before.before in
-    omega (arith, (left_so (ended i)).few i.if2.true, (start (ended i).before).fits.allowance)
-
-value-of-requires : tie.Need-value-of-requires invariant-loop decreases-loop
-value-of-requires c κs = let i = c.before.before.before.before.before.before in ((left_so (ended i)).room i.if2.true).2
-
-same_length : tie.Need-same-length invariant-loop decreases-loop
-same_length c = let f = c.before.before.before.before in let i = f.before.before.before in f.close-frame.auto.0 ∙ (left_so (ended i)).long
-
-returns : tie.Need-returns invariant-loop decreases-loop
-returns c =
-    let f = c.before.before.before.before in let i = f.before.before.before in
-    (left_so (ended i)).ends i.if2.true _ _ f.close-frame.ensures c.value_of_lem.ensures _ _
-
-refusal-after-requires : tie.Need-refusal-after-requires invariant-loop decreases-loop
-refusal-after-requires c κs = search rules
-
-same-length-2 : tie.Need-same-length-2 invariant-loop decreases-loop
-same-length-2 c = (left_so c.before.before).long
-
-returns-2 : tie.Need-returns-2 invariant-loop decreases-loop
-returns-2 c = let e = c.before in (left_so e.before).halts e.if2.false _ c.refusal-after.ensures
+returns-3 : tie.Need-returns-3 invariant-loop decreases-loop
+returns-3 c = spent c.before.before.loop.invariant.1 (omega arith) c.refusal-after2.ensures
 
 pub follow-spec : {M : Type 1} → statement M
 follow-spec =
@@ -112,17 +127,21 @@ follow-spec =
     decreases-loop
     loop-holds
     step-requires
-    sub-left
-    loop-less
-    loop-again
     sub-steps
+    add-counted
     sub-close-frame
     close-frame-requires
     add-length
-    add-counted
     value-of-requires
     same_length
     returns
     refusal-after-requires
     same-length-2
-    returns-2)
+    returns-2
+    sub-left
+    loop-less
+    loop-again
+    sub-steps-2
+    refusal-after-requires-2
+    same-length-3
+    returns-3)

@@ -1,5 +1,7 @@
-use borrow.Author.Rules.{rules}
+use mathlib.Core.Path.{refl, ap, ◌∙◌}
+use lib.ListN.{length}
 use Rattle.runner.proofs.Settling.{settled_completed, settled_refused}
+use borrow.Author.Rules.{rules}
 use Rattle.runner.proofs.run_accepted.Statement.{statement}
 use Rattle.runner.proofs.run_accepted.Tie as tie
 
@@ -15,34 +17,26 @@ follow-requires c κs = search rules
 enum_told : tie.Need-enum-told
 enum_told c = search rules
 
-enum-known-outcome : tie.Need-enum-known-outcome
-enum-known-outcome c = search rules
+enum-told-2 : tie.Need-enum-told-2
+enum-told-2 c = search rules
 
 copy-if-requires-2 : tie.Need-copy-if-requires-2
 copy-if-requires-2 c κs = search rules
-
-readable-with-requires : tie.Need-readable-with-requires
-readable-with-requires c κs =
-    let o = c.before.before.before.before.before.before.before in let f = o.before.before.before.before in
-    (f.follow.ensures.ready _ o.outcome.given.1, f.before.before.before.before.before.before.before.before.before.before.before.before.before.before.requires.2)
-
-refusal-carrying-requires : tie.Need-refusal-carrying-requires
-refusal-carrying-requires c κs = search rules
 
 same_length : tie.Need-same-length
 same_length c = search rules
 
 returns : tie.Need-returns
-returns c = let f = c.before.before.before.before in settled_completed f.follow.ensures _ c.enum_told.given.1
+returns c = settled_completed c.before.before.before.before.follow.ensures _ c.enum_told.given.1
 
 same-length-2 : tie.Need-same-length-2
 same-length-2 c = search rules
 
 returns-2 : tie.Need-returns-2
 returns-2 c =
-    let r = c.before in let y = r.before.before.before in let o = y.before.before.before.before.before in let f = o.before.before.before.before in let s = f.before.before.before.before.before.before.before.before.before.before.before.before.before.before in
-    settled_refused f.follow.ensures o.outcome.given.1 s.args.sets s.requires.5 f.before.before.before.before.before.copy-if.ensures.0 y.copy-if2.ensures
-    (r.readable-with.ensures _) c.refusal-carrying.ensures
+    let f = c.before.before.before.before.before.before.before.before in let s = f.before.before.before.before.before.before.before.before.before.before.before.before.before in
+    settled_refused f.follow.ensures c.before.before.before.before.enum-told2.given.1 s.args.sets s.requires.5
+    f.before.before.before.before.copy-if.ensures.0 c.copy-if2.ensures
 
 pub run-accepted-spec : {M : Type 1} → statement M
 run-accepted-spec =
@@ -52,10 +46,8 @@ run-accepted-spec =
     copy-if-requires
     follow-requires
     enum_told
-    enum-known-outcome
+    enum-told-2
     copy-if-requires-2
-    readable-with-requires
-    refusal-carrying-requires
     same_length
     returns
     same-length-2

@@ -56,18 +56,13 @@ loop-again c =
     let t = c.before.before.before.before in let some = t.before.before.before.before.loop-test.true in let i = (held-before t).loop.invariant in
     (omega (arith, i.0), λ p. rw (← (one_less some i.0)) (turn (start t).requires.1.accepts (i.1 p) t.step.ensures c.if1.false))
 
-range-asked-requires : tie.Need-range-asked-requires invariant-loop decreases-loop
-range-asked-requires c κs =
-    let q = c.before.before in let s = q.before.before.before.before.before.before in
-    (step_ready s.requires.1.accepts (q.loop.invariant.1 0) s.requires.0).ready
-
 same-length-2 : tie.Need-same-length-2 invariant-loop decreases-loop
-same-length-2 c = as_long (c.before.before.before.loop.invariant.1 0)
+same-length-2 c = as_long (c.before.loop.invariant.1 0)
 
 returns-2 : tie.Need-returns-2 invariant-loop decreases-loop
 returns-2 c =
-    let q = c.before.before.before in let s = q.before.before.before.before.before.before in
-    λ p. stands_at s.requires.1.accepts (q.loop.invariant.1 p) (omega (arith, q.loop.invariant.0)) c.range-asked.ensures
+    let s = c.before.before.before.before.before.before.before in
+    λ p. stands_at s.requires.1.accepts (c.before.loop.invariant.1 p) (omega (arith, c.before.loop.invariant.0))
 
 pub advance-spec : {M : Type 1} → statement M
 advance-spec =
@@ -82,6 +77,5 @@ advance-spec =
     sub-left
     loop-less
     loop-again
-    range-asked-requires
     same-length-2
     returns-2)

@@ -1,7 +1,6 @@
 //! The examples of document 01 that a run decides, those of document 02's M-100,
 //! and those of the readings, with the beginnings of their lines of
-//! outcome. What an entry leaves unsaid (steps, a top, M-102's count) was reckoned
-//! by hand.
+//! outcome. What an entry leaves unsaid (steps, a top) was reckoned by hand.
 
 use crate::hex;
 use crate::isa;
@@ -10,7 +9,7 @@ use std::collections::BTreeMap;
 
 /// "Working memory at 4096 holds `41 00 42`; tracepoint 7". The image is empty,
 /// no register is lent, and 64 bytes of the buffer are free.
-pub fn scene() -> Case {
+fn scene() -> Case {
     Case {
         expression: Vec::new(),
         registers: Registers::Listed(Vec::new()),
@@ -48,9 +47,9 @@ const SHORT: [(&str, &str); 44] = [
         "25 80 00 00 00 00 00 00 00 22 01 16 01 05 27",
         "completed 5 8000000000000000",
     ),
-    ("22 01 22 00 05 27", "refused 11 4 2 0"),
+    ("22 01 22 00 05 27", "refused 11 4 2"),
     ("23 10 00 0d 02 27", "completed 3 1000 15 -"),
-    ("23 10 00 0d 04 27", "refused 13 3 1 3 0 -"),
+    ("23 10 00 0d 04 27", "refused 13 3 1 0 -"),
     ("23 10 00 22 03 2f 27", "completed 4 none 15 -"),
     // The third of them with other conditions: 0 goes on, 2 jumps.
     ("22 00 20 00 08 22 07 27 27", "completed 4 7"),
@@ -63,26 +62,26 @@ const SHORT: [(&str, &str); 44] = [
     // Operands are most significant byte first; ref reads little-endian.
     ("23 10 00 18 27", "completed 3 41"),
     ("23 10 01 18 27", "completed 3 4200"),
-    ("23 10 01 19 27", "refused 13 3 1 2"),
+    ("23 10 01 19 27", "refused 13 3 1"),
     ("23 10 02 17 27", "completed 3 42"),
-    ("23 10 03 17 27", "refused 13 3 1 0"),
+    ("23 10 03 17 27", "refused 13 3 1"),
     // tracenz needs only the bytes up to the zero; 20 is seldom its own.
     ("23 10 00 24 00 01 00 00 2f 27", "completed 4 none 15 -"),
-    ("23 10 02 24 00 01 00 00 2f 27", "refused 13 8 2 1"),
+    ("23 10 02 24 00 01 00 00 2f 27", "refused 13 8 2"),
     ("23 10 02 22 01 2f 27", "completed 4 none 14 -"),
-    ("23 10 02 22 02 2f 27", "refused 13 5 2 1"),
-    ("23 20 00 24 00 01 00 00 0c 27", "refused 14 8 2 0"),
+    ("23 10 02 22 02 2f 27", "refused 13 5 2"),
+    ("23 20 00 24 00 01 00 00 0c 27", "refused 14 8 2"),
     // a size of 0 at an address that is not readable.
     ("22 05 0d 00 27", "completed 3 5 8 -"),
     ("22 05 30 00 00 27", "completed 3 5 8 -"),
     ("22 05 22 00 0c 27", "completed 4 none 8 -"),
     ("22 05 22 00 2f 27", "completed 4 none 8 -"),
     // A-21, with no register lent.
-    ("26 00 00 27", "refused 12 0 0 0"),
+    ("26 00 00 27", "refused 12 0 0"),
     ("26 ff ff 27", "refused 12 0 0"),
     // a variable set, recorded and kept; set before a fault, and not kept.
     ("22 09 2d 00 05 2e 00 05 27", "completed 4 9,9 15 5=9"),
-    ("22 09 2d 00 05 22 00 06 27", "refused 11 7 3 0 0 -"),
+    ("22 09 2d 00 05 22 00 06 27", "refused 11 7 3 0 -"),
 ];
 
 /// Bytes in front, how often the byte or bytes in the middle, outcome.
@@ -133,15 +132,15 @@ fn limited() -> Vec<(Case, &'static str)> {
     };
     vec![
         (case(21, None), "completed 3 1000 15 -"),
-        (case(20, None), "refused 15 5 2 0 0 -"),
-        (case(13, None), "refused 15 5 2 0 0 -"),
-        (case(12, None), "refused 15 3 1 0 0 -"),
-        (case(0, None), "refused 15 3 1 0 0 -"),
-        (case(64, Some(0)), "refused 10 0 0 0 0 -"),
-        (case(64, Some(1)), "refused 10 3 1 0 0 -"),
-        (case(64, Some(2)), "refused 10 5 2 0 0 -"),
+        (case(20, None), "refused 15 5 2 0 -"),
+        (case(13, None), "refused 15 5 2 0 -"),
+        (case(12, None), "refused 15 3 1 0 -"),
+        (case(0, None), "refused 15 3 1 0 -"),
+        (case(64, Some(0)), "refused 10 0 0 0 -"),
+        (case(64, Some(1)), "refused 10 3 1 0 -"),
+        (case(64, Some(2)), "refused 10 5 2 0 -"),
         (case(64, Some(3)), "completed 3 1000 15 -"),
-        (case(0, Some(1)), "refused 10 3 1 0 0 -"),
+        (case(0, Some(1)), "refused 10 3 1 0 -"),
     ]
 }
 

@@ -1,8 +1,9 @@
 use borrow.Author.Rules.{rules}
+use mathlib.Core.Path.{sym}
 use native.Mathlib.Omega.{arith}
 use lib.ListN.{length, length-take}
-use Rattle.command_steps.proofs.stand_after.Statement.{statement}
-use Rattle.command_steps.proofs.stand_after.Tie as tie
+use Rattle.command_steps.proofs.print_step.Statement.{statement}
+use Rattle.command_steps.proofs.print_step.Tie as tie
 
 returns : tie.Need-returns
 returns c = search rules
@@ -25,11 +26,26 @@ slice-aggregate-stand c =
 stand-requires : tie.Need-stand-requires
 stand-requires c κs = search rules
 
-returns-2 : tie.Need-returns-2
-returns-2 c = (c.before.stand.ensures 0).long
+enum_told : tie.Need-enum-told
+enum_told c = search rules
 
-pub stand-after-spec : {M : Type 1} → statement M
-stand-after-spec =
+enum-known-stood : tie.Need-enum-known-stood
+enum-known-stood c = search rules
+
+slice-aggregate-print-line : tie.Need-slice-aggregate-print-line
+slice-aggregate-print-line c = sym (c.before.before.before.before.before.stand.ensures 0).long
+
+print-line-requires : tie.Need-print-line-requires
+print-line-requires c κs = search rules
+
+returns-2 : tie.Need-returns-2
+returns-2 c = search rules
+
+returns-3 : tie.Need-returns-3
+returns-3 c = search rules
+
+pub print-step-spec : {M : Type 1} → statement M
+print-step-spec =
     tie.close
     (tie.spec
     returns
@@ -38,4 +54,9 @@ stand-after-spec =
     array-borrow-prefix-bytes
     slice-aggregate-stand
     stand-requires
-    returns-2)
+    enum_told
+    enum-known-stood
+    slice-aggregate-print-line
+    print-line-requires
+    returns-2
+    returns-3)

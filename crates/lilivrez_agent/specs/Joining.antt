@@ -1,2 +1,0 @@
--- Between the functions of this crate.
-pub mod Stored
