@@ -1,6 +1,8 @@
 // One pass over an expression that accepts it, or is in doubt: then the three passes of `passes` answer. Most
 // expressions are accepted here. Straight code, up to the first jump, needs no table; code with jumps has two from its
 // first jump on.
+#![tactic(auto)]
+
 ghost use Rattle.std.specs.Prelude.{◌≡◌, ◌≢◌, ◌≤◌, length};
 ghost use Rattle.sizes.specs.Sizes.{expression_most};
 ghost use Rattle.acceptor.specs.Joining.StraightCode.{Following, Straight};

@@ -1,5 +1,7 @@
 // The words of the command line, counted from 1: the command, and what follows it. Two words are left out: a first word
 // --status, which asks for the status on descriptor 3, and the first --, behind which no word is an option.
+#![tactic(auto)]
+
 ghost use Rattle.io.specs.Counts.{IsPrefixLen};
 
 use std::num::wrapping_add_usize;

@@ -1,4 +1,6 @@
 // What each operator computes on 64-bit words: specs/Words.antt, whose names are the opcodes'.
+#![tactic(auto)]
+
 ghost use Rattle.std.specs.Prelude.{◌≡◌, ◌^◌, ◌<◌};
 ghost use Rattle.std.specs.Int.Signed.{shr_z};
 ghost use Rattle.arithmetic.specs.Words as Words;

@@ -1,5 +1,7 @@
 // What a person must know of an expression that is meant to collect: the registers that GDB wanted collected and that
 // are not, since the agent has no record of a register; and that it contains no instruction that records.
+#![tactic(auto)]
+
 ghost use Rattle.std.specs.Prelude.{◌≡◌, ◌/◌, ◌<◌, ◌≤◌, length, get_or};
 ghost use Rattle.io.specs.Counts.{IsPrefixLen};
 ghost use Rattle.text_buffer.specs.Text.{Appends};

@@ -1,4 +1,6 @@
 // The command `explain` of the tool: a refusal's row of the manual.
+#![tactic(auto)]
+
 use console_output::{print, print_error, print_error_of};
 use line_words::numbers::Number;
 use text_buffer::rows::append_row;

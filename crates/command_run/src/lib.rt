@@ -1,4 +1,6 @@
 // The command `run` of the tool: a scenario is read, its expressions are run, and what comes of them is printed.
+#![tactic(auto)]
+
 mod asked;
 mod inputs;
 mod items;

@@ -1,4 +1,6 @@
 // The listing of a run: where it stands before each of its steps.
+#![tactic(auto)]
+
 use console_output::print;
 use encoding::put_bytes;
 use isa::Stack;

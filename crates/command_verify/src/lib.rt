@@ -1,4 +1,6 @@
 // The command `verify` of the tool: expressions checked, listed, and read from listings of GDB.
+#![tactic(auto)]
+
 mod answer;
 mod from_gdb;
 pub mod verify;

@@ -1,5 +1,7 @@
 // What the commands print: answers on standard output; an error on standard error, in one line. Where the status is
 // asked for, each refused answer and each error is told on descriptor 3 too, by one character.
+#![tactic(auto)]
+
 mod failure;
 
 ghost use Rattle.std.specs.Prelude.{◌≡◌};

@@ -1,4 +1,6 @@
 // Numbers in bytes.
+#![tactic(auto)]
+
 ghost use Rattle.std.specs.Prelude.{◌≡◌, ◌+◌, ◌<◌, ◌≤◌, ◌^◌, length, take, drop};
 ghost use Rattle.encoding.specs.BigEndian.{big_endian, big_bytes};
 ghost use Rattle.encoding.specs.LittleEndian.{little_endian, little_bytes};

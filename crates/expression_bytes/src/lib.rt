@@ -1,5 +1,7 @@
 // The bytes of an expression, read from a text: hexadecimal; with the word `bytes` in front, as lines that the tool prints
 // have it; or with the length in front, as GDB's packets have it (`3,220527`).
+#![tactic(auto)]
+
 ghost use Rattle.std.specs.Prelude.{◌≡◌, ◌≤◌, length};
 ghost use Rattle.line_words.specs.Words.{leading};
 ghost use Rattle.expression_bytes.specs.Expression.{is_not_comma, bytes_start, is_list, length_of, is_fitting, read_front, read_start, ReadAt};

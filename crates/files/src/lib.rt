@@ -1,4 +1,6 @@
 // Files that a command names: read whole, and written. The name - is standard input, and standard output.
+#![tactic(auto)]
+
 mod identities;
 mod status;
 mod writing;

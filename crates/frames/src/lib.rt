@@ -1,4 +1,6 @@
 // Frames: what a run records, and how it is written into the trace buffer.
+#![tactic(auto)]
+
 pub mod trailer;
 
 ghost use Rattle.std.specs.Prelude.{◌≡◌, ◌<◌};

@@ -1,6 +1,8 @@
 // The height with which each instruction of an accepted expression is reached, for listings. It leans on the verifier's
 // page of promises: since two walks to one instruction arrive at one height, each walk's height can be stored as it
 // comes.
+#![tactic(auto)]
+
 ghost use Rattle.std.specs.Prelude.{◌≡◌, ◌<◌, length, get_or, replicate};
 ghost use Rattle.isa.specs.Decode.{next};
 ghost use Rattle.isa.specs.Joining.Rows.{table, IsRow};

@@ -1,5 +1,7 @@
 // Bytes written as hexadecimal text: two digits to a byte, upper or lower case, with or without 0x in front of a byte;
 // blanks, commas, colons and braces between the bytes; comments from # to the end of the line.
+#![tactic(auto)]
+
 ghost use Rattle.std.specs.Prelude.{◌≡◌, ℕ, ◌+◌, ◌<◌, ◌≤◌, length, drop};
 ghost use Rattle.io.specs.Counts.{IsPrefixLen};
 ghost use Rattle.io.specs.Digits.{hex_digit_ascii};

@@ -1,4 +1,6 @@
 // The instruction table, decoding, and the stack's limits.
+#![tactic(auto)]
+
 pub mod opcode;
 
 ghost use Rattle.std.specs.Prelude.{◌∷◌, ◌≡◌, ◌+◌, ◌≤◌, ◌<◌, ◌^◌, ◌-◌, length, get_or, replicate, drop};

@@ -13,6 +13,8 @@
 //   c BYTES LENGTH USED FRAME             how many records a frame has
 //   l BYTES LENGTH USED FRAME             where a frame is
 //   s BYTES LENGTH PLACE                  a step of the walker
+#![tactic(auto)]
+
 mod fields;
 mod reading;
 mod text;

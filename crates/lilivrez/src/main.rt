@@ -1,5 +1,7 @@
 // lilivrez: the command-line tool. A program has no exit status of its own: each refused answer and each error is told on
 // descriptor 3 where the wrapper asks for it, and the first word of each answer is fixed.
+#![tactic(auto)]
+
 use console_output::{print, print_error, print_error_of};
 
 fn print_help() {

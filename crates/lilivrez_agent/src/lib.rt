@@ -1,4 +1,6 @@
 // The agent as a static library, for C and Rust: include/lilivrez_agent.h says how it is called.
+#![tactic(auto)]
+
 ghost use Rattle.std.specs.Prelude.{◌≡◌};
 ghost use Rattle.version.specs.Version.{version_number};
 

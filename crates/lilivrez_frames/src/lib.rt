@@ -1,4 +1,6 @@
 // The frame reader as a static library, for C and Rust: include/lilivrez_frames.h says how it is called.
+#![tactic(auto)]
+
 ghost use Rattle.std.specs.Prelude.{◌≡◌};
 ghost use Rattle.version.specs.Version.{version_number};
 

@@ -1,4 +1,6 @@
 // The verifier as a static library, for C and Rust: include/lilivrez_verifier.h says how it is called.
+#![tactic(auto)]
+
 ghost use Rattle.std.specs.Prelude.{◌≡◌};
 ghost use Rattle.verdict.specs.Verdict.{verdict};
 ghost use Rattle.version.specs.Version.{version_number};

@@ -1,4 +1,6 @@
 // Words of a line: what stands between its blanks; and the numbers that they spell.
+#![tactic(auto)]
+
 ghost use Rattle.std.specs.Prelude.{◌≡◌, ◌≤◌, length, drop};
 ghost use Rattle.hexadecimal.specs.Hex.{is_blank};
 ghost use Rattle.line_words.specs.Words.{leading, is_in_word, first_word, IsAt, same_bytes};

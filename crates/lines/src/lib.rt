@@ -1,5 +1,7 @@
 // Lines of standard input, or of an open file, one at a time. The caller lends a buffer for what is read
 // and one for the line, and hands each answer back with the next call.
+#![tactic(auto)]
+
 ghost use Rattle.std.specs.Prelude.{false, ◌≡◌};
 
 use libc::STDIN_FILENO;

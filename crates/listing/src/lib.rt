@@ -1,4 +1,6 @@
 // Listings of expressions, read back: lines as GDB's `maint agent` prints them.
+#![tactic(auto)]
+
 mod numbers;
 pub mod parts;
 pub mod reading;

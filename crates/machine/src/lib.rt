@@ -1,5 +1,7 @@
 // Document 01's machine is a definition: see specs/. The crates above follow it; here is only what makes known that its
 // inputs are what their types say.
+#![tactic(auto)]
+
 ghost use Rattle.std.specs.Prelude.{List, ℕ};
 ghost use Rattle.memory.specs.Spans.{target};
 ghost use Rattle.machine.specs.Given.{given};

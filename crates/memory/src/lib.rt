@@ -1,5 +1,7 @@
 // Target memory: two spans of lent bytes, what is read there, and the search for a zero byte.
 // Sums of addresses could wrap: they are compared by differences, or it is told by the sum that it has wrapped.
+#![tactic(auto)]
+
 ghost use Rattle.std.specs.Prelude.{◌≡◌, ◌+◌, ◌-◌, ◌≤◌, min, true, ◌≢◌, length};
 ghost use Rattle.memory.specs.Spans.{span, target, ends_past, share_address, spans_refusal};
 ghost use Rattle.memory.specs.Joining.Holding.{cleared, held_at};

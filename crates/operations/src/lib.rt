@@ -1,5 +1,7 @@
 // The instructions that neither record nor set a variable by themselves, one function for each class. Each is lent the
 // cells and told the height; it says nothing of steps, allowance or records so far.
+#![tactic(auto)]
+
 ghost use Rattle.std.specs.Prelude.{false, ◌≡◌, ◌+◌, ◌-◌, ◌≤◌, ◌<◌, get_or, set};
 ghost use Rattle.sizes.specs.Sizes.{expression_most, stack_cells};
 ghost use Rattle.isa.specs.Classes.{binary, unary, ref, ext, zero_ext_of, setv, if_goto, goto, constant, reg, getv, dup, pop, swap, pick, rot, class_of, row};

@@ -1,4 +1,6 @@
 // The three passes of document 01, "Verifying", over the bytes of an expression: they answer for any bytes.
+#![tactic(auto)]
+
 ghost use Rattle.std.specs.Prelude.{◌≡◌, List, ℕ, ◌≤◌, length};
 ghost use Rattle.sizes.specs.Sizes.{expression_most};
 ghost use Rattle.isa.specs.Starts.{starts};

@@ -1,4 +1,6 @@
 // The frame reader: frames from the newest on, the records of one, and the walker over them all.
+#![tactic(auto)]
+
 ghost use Rattle.std.specs.Prelude.{◌≡◌, ◌+◌, ◌≤◌, length};
 ghost use Rattle.sizes.specs.Sizes.{buffer_most};
 ghost use Rattle.frames.specs.Division.{divide as division};

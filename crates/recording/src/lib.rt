@@ -1,5 +1,7 @@
 // The instructions that record: trace, tracenz, trace_quick, trace16 and tracev. `put` is the end of what is written in
 // the whole buffer.
+#![tactic(auto)]
+
 ghost use Rattle.std.specs.Prelude.{◌≡◌, ◌-◌, ◌≤◌, min, length};
 ghost use Rattle.sizes.specs.Sizes.{record_most};
 ghost use Rattle.isa.specs.Classes.{trace, tracenz, trace_quick, tracev};

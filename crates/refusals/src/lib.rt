@@ -1,4 +1,6 @@
 // Refusals: document 01's numbers by name, and the one value by which every answer tells a refusal.
+#![tactic(auto)]
+
 ghost use Rattle.std.specs.Prelude.{◌≡◌};
 ghost use Rattle.refusals.specs.Refusal.{refusal, refusal_after};
 

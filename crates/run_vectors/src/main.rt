@@ -9,6 +9,8 @@
 // An outcome is `completed STEPS ANSWER USED VARS SUM HEAD` or `refused NUMBER OFFSET STEPS USED VARS
 // SUM HEAD`: SUM is the FNV-1a hash of the buffer, and HEAD its first 32 bytes from the used length
 // given on. A line that is no case has the answer `bad line`.
+#![tactic(auto)]
+
 mod fields;
 mod inputs;
 mod text;

@@ -1,4 +1,6 @@
 // Runs: the loop that follows document 01's machine, and the public entries.
+#![tactic(auto)]
+
 ghost use Rattle.std.specs.Prelude.{true, false, [], ◌≡◌, ◌+◌, ◌-◌, ◌≤◌, ◌<◌, length};
 ghost use Rattle.encoding.specs.Written.{written_at};
 ghost use Rattle.isa.specs.Joining.Held.{held};

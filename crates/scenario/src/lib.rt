@@ -1,4 +1,6 @@
 // A line of a scenario, read: what is set, loaded or saved, or an expression that is run.
+#![tactic(auto)]
+
 ghost use Rattle.std.specs.Prelude.{true, ◌≡◌, ℕ, ◌≤◌, length};
 ghost use Rattle.scenario.specs.Items.{opens_comment, columns_before_comment, keyword_of, limit_of, item_ended, number_from, set_from, pair_from, file_from, source_from, span_from, allowance_from, rest_of_line, item_in, item_of};
 

@@ -1,4 +1,6 @@
 // A run with what the lines of a scenario have set.
+#![tactic(auto)]
+
 ghost use Rattle.runner.specs.Returned.{Ran};
 ghost use Rattle.scenario_run.specs.Runs.{given_by};
 

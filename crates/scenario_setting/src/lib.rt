@@ -1,4 +1,6 @@
 // What the lines of a scenario have set so far, and the values of its registers and variables.
+#![tactic(auto)]
+
 ghost use Rattle.std.specs.Prelude.{◌≡◌, set, take};
 ghost use Rattle.scenario_setting.specs.Settings.{begun, with_stop, with_default, with_used, with_span, lent_with, with_number};
 ghost use Rattle.scenario_setting.specs.Settings.{registers_after, variable_set, variables_set};

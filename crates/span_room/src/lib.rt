@@ -1,5 +1,7 @@
 // Two spans in one lent buffer, so that either may be long: the image's bytes at its start, the working memory's at its
 // end.
+#![tactic(auto)]
+
 ghost use Rattle.std.specs.Prelude.{◌≡◌};
 ghost use Rattle.span_room.specs.Room.{last_of, Rises, raised, moved_to_end};
 

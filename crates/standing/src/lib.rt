@@ -1,4 +1,6 @@
 // Where a run stands after so many steps, for listings: offset, stack, variables and the records made so far.
+#![tactic(auto)]
+
 ghost use Rattle.std.specs.Prelude.{◌≡◌, ℕ, ◌≤◌, length};
 ghost use Rattle.isa.specs.Joining.Rows.{table};
 ghost use Rattle.memory.specs.Spans.{target, spans_refusal};

@@ -1,4 +1,6 @@
 // Listings of some runs. What they must be is in the file stdout, written by hand from document 01.
+#![tactic(auto)]
+
 use command_steps::print_steps;
 use console_output::print;
 

@@ -1,5 +1,7 @@
 // A step of a run as a line of text. Each function appends to a text in a lent buffer, as those of `text_buffer` do:
 // `at` is where the text so far ends, and the answer is where it ends then.
+#![tactic(auto)]
+
 ghost use Rattle.std.specs.Prelude.{◌≡◌, ◌≤◌, length};
 ghost use Rattle.io.specs.Counts.{IsPrefixLen};
 ghost use Rattle.text_buffer.specs.Text.{Appends};

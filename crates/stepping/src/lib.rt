@@ -1,5 +1,7 @@
 // One step of the machine: the instruction at an offset, by one arm for each opcode. The arm names the opcode, so that
 // its row is known when this is compiled.
+#![tactic(auto)]
+
 mod key;
 
 ghost use Rattle.std.specs.Prelude.{◌≡◌, ◌+◌, ◌-◌, ◌≤◌, ◌<◌, length, get_or};

@@ -1,5 +1,7 @@
 // Text appended to a buffer that the caller lends, cut where the buffer ends. `at` is where the text
 // so far ends, and each function answers where it ends then.
+#![tactic(auto)]
+
 ghost use Rattle.std.specs.Prelude.{ℕ};
 ghost use Rattle.io.specs.Counts.{IsPrefixLen};
 ghost use Rattle.io.specs.Digits.{last_digits, IsDigitCount};

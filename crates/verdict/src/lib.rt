@@ -1,4 +1,6 @@
 // Document 01's verifier is a definition: see specs/. The crates above follow it; here is only the form of its answer.
+#![tactic(auto)]
+
 use refusals::Refusal;
 
 // Accepted: instruction count, greatest height, longest walk.

@@ -1,5 +1,7 @@
 // The verifier of agent expressions: the entries. Most expressions are accepted in one pass; where that pass is in
 // doubt, the three passes answer.
+#![tactic(auto)]
+
 ghost use Rattle.std.specs.Prelude.{◌≡◌, false, ◌≤◌, length};
 ghost use Rattle.sizes.specs.Sizes.{expression_most};
 ghost use Rattle.isa.specs.Joining.Rows.{table};

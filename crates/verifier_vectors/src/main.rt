@@ -1,4 +1,6 @@
 // Test vectors for the verifier: a line of hexadecimal in, a line with the verifier's answer out.
+#![tactic(auto)]
+
 ghost use Rattle.io.specs.Counts.{IsPrefixLen};
 
 use hexadecimal::HexAnswer;

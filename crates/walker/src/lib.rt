@@ -1,4 +1,6 @@
 // The walker over the frames of a trace buffer, from the newest on. It keeps the lent buffer and its own place in it.
+#![tactic(auto)]
+
 ghost use Rattle.std.specs.Prelude.{◌≡◌};
 ghost use Rattle.reader.specs.Located.{walked, place_after};
 ghost use Rattle.reader.specs.Answers.{located_of};
