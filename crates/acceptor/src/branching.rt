@@ -79,7 +79,7 @@ fn brought_to(at: usize, heights: &[u8], distances: &[u16]) -> Flow
 }
 
 fn no_jump(at: usize) -> JumpEnd
-    ensures { result.stop ≡ stop-doubt }
+    ensures { result.stop ≡ stop_doubt }
 {
     JumpEnd {
         stop: DOUBT,
@@ -109,7 +109,7 @@ fn jump(
     heights: &mut [u8],
     distances: &mut [u16],
 ) -> JumpEnd
-    requires { (at < length e.now) × (length e.now ≤ expression-most) × (length e.now ≤ length heights.old) × (length e.now ≤ length distances.old) × (distance ≤ 1024) × (noted ≤ 1024) × IsJump e.now at needed }
+    requires { (at < length e.now) × (length e.now ≤ expression_most) × (length e.now ≤ length heights.old) × (length e.now ≤ length distances.old) × (distance ≤ 1024) × (noted ≤ 1024) × IsJump e.now at needed }
     ensures { Jumped e.now at height distance noted heights.old distances.old result heights.new distances.new }
 {
     if e.len() - at < 4 {
@@ -139,7 +139,7 @@ fn jump(
 }
 
 fn in_doubt(s: Progress) -> Progress
-    ensures { result.stop ≡ stop-doubt }
+    ensures { result.stop ≡ stop_doubt }
 {
     Progress {
         stop: DOUBT,
@@ -264,7 +264,7 @@ fn at_end(e: &[u8], s: Progress, heights: &[u8], distances: &[u16]) -> Progress
 // The instruction at `at`, reached with that height. The arms are those of straight code: one function that two loops
 // call would be placed in neither, and every instruction would pay for a call.
 fn effect_at(e: &[u8], at: usize, height: usize, greatest: usize) -> HeightEffect
-    requires { (at < length e.now) × (length e.now ≤ expression-most) × (height ≤ 2048) × (height ≤ greatest) }
+    requires { (at < length e.now) × (length e.now ≤ expression_most) × (height ≤ 2048) × (height ≤ greatest) }
     ensures { HasEffect e.now at height greatest result }
 {
     let opcode = e[at];
@@ -367,7 +367,7 @@ fn at_start(e: &[u8], s: Progress, heights: &mut [u8], distances: &mut [u16]) ->
 
 // From the first jump to the end of the expression, or to a doubt.
 fn follow(e: &[u8], from: Stop, heights: &mut [u8], distances: &mut [u16]) -> Progress
-    requires { (length e.now ≤ expression-most) × Following e.now from.at from.height from.count from.greatest from.sets × Unmeasured e.now heights.old distances.old }
+    requires { (length e.now ≤ expression_most) × Following e.now from.at from.height from.count from.greatest from.sets × Unmeasured e.now heights.old distances.old }
     ensures { Concluded e.now result }
 {
     let mut at = from.at;
@@ -406,7 +406,7 @@ pub(crate) fn follow_short(e: &[u8], from: Stop) -> Progress
 // The others have tables for 1,024 bytes. No expression is longer, so that the call of itself is never made: it keeps
 // the compiler from placing this function in its caller, whose frame would then have these tables for every expression.
 pub(crate) fn follow_long(e: &[u8], from: Stop) -> Progress
-    requires { (length e.now ≤ expression-most) × Following e.now from.at from.height from.count from.greatest from.sets }
+    requires { (length e.now ≤ expression_most) × Following e.now from.at from.height from.count from.greatest from.sets }
     ensures { Concluded e.now result }
 {
     if sizes::EXPRESSION_MOST < e.len() {

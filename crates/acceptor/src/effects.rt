@@ -69,8 +69,8 @@ pub(crate) fn by_row(
 
 // ext N: N is not 0.
 pub(crate) fn ext(e: &[u8], at: usize, height: usize, greatest: usize) -> HeightEffect
-    requires { (at < length e.now) × (length e.now ≤ expression-most) × (height ≤ 2048) × (height ≤ greatest) × (kind_at e.now at ≡ kind-ext) }
-    ensures { ByRow stop-on at height greatest 1 1 1 result × (result.stop ≢ stop-doubt → 1 ≤ operand e.now at) }
+    requires { (at < length e.now) × (length e.now ≤ expression_most) × (height ≤ 2048) × (height ≤ greatest) × (kind_at e.now at ≡ kind_ext) }
+    ensures { ByRow stop_on at height greatest 1 1 1 result × (result.stop ≢ stop_doubt → 1 ≤ operand e.now at) }
 {
     if e.len() - at < 2 {
         return halt(crate::DOUBT);
@@ -90,8 +90,8 @@ pub(crate) fn variable(
     stop: u8,
     needed: usize,
 ) -> HeightEffect
-    requires { (at < length e.now) × (length e.now ≤ expression-most) × (height ≤ 2048) × (height ≤ greatest) × (kind_at e.now at ≡ kind-variable) }
-    ensures { ByRow stop at height greatest 2 needed 1 result × (result.stop ≢ stop-doubt → operand e.now at < variable-count) }
+    requires { (at < length e.now) × (length e.now ≤ expression_most) × (height ≤ 2048) × (height ≤ greatest) × (kind_at e.now at ≡ kind_variable) }
+    ensures { ByRow stop at height greatest 2 needed 1 result × (result.stop ≢ stop_doubt → operand e.now at < variable_count) }
 {
     if e.len() - at < 3 {
         return halt(crate::DOUBT);
@@ -104,8 +104,8 @@ pub(crate) fn variable(
 
 // pick N: N comes on top of its row.
 pub(crate) fn pick(e: &[u8], at: usize, height: usize, greatest: usize) -> HeightEffect
-    requires { (at < length e.now) × (length e.now ≤ expression-most) × (height ≤ 2048) × (height ≤ greatest) × (kind_at e.now at ≡ kind-pick) }
-    ensures { ByRow stop-on at height greatest 1 (1 + picked e.now at) (2 + picked e.now at) result }
+    requires { (at < length e.now) × (length e.now ≤ expression_most) × (height ≤ 2048) × (height ≤ greatest) × (kind_at e.now at ≡ kind_pick) }
+    ensures { ByRow stop_on at height greatest 1 (1 + picked e.now at) (2 + picked e.now at) result }
 {
     if e.len() - at < 2 {
         return halt(crate::DOUBT);

@@ -61,7 +61,7 @@ pub struct Progress {
 
 // An expression up to its first jump, or to an end that is not its last byte. Straight code is accepted here.
 pub fn accept_straight(e: &[u8]) -> Stop
-    requires { length e.now ≤ expression-most }
+    requires { length e.now ≤ expression_most }
     ensures { Straight e.now result }
 {
     let stop = straight::follow(e);
@@ -86,7 +86,7 @@ pub fn accept_straight(e: &[u8]) -> Stop
 
 // The rest of it, from there on.
 pub fn accept_branching(e: &[u8], from: Stop) -> Progress
-    requires { (length e.now ≤ expression-most) × Following e.now from.at from.height from.count from.greatest from.sets }
+    requires { (length e.now ≤ expression_most) × Following e.now from.at from.height from.count from.greatest from.sets }
     ensures { Concluded e.now result }
 {
     if e.len() <= 128 {

@@ -10,7 +10,7 @@ use crate::{AT_END, AT_GOTO, AT_IF_GOTO, DOUBT, ON, SETS, Stop};
 // The instruction at `at`, reached with that height. Neighbours of one row stand in two arms: as one arm they would be
 // tested for as a range before the jump table, which joins them again.
 fn effect_at(e: &[u8], at: usize, height: usize, greatest: usize) -> HeightEffect
-    requires { (at < length e.now) × (length e.now ≤ expression-most) × (height ≤ 2048) × (height ≤ greatest) }
+    requires { (at < length e.now) × (length e.now ≤ expression_most) × (height ≤ 2048) × (height ≤ greatest) }
     ensures { HasEffect e.now at height greatest result }
 {
     let opcode = e[at];
@@ -45,7 +45,7 @@ fn effect_at(e: &[u8], at: usize, height: usize, greatest: usize) -> HeightEffec
 
 // From offset 0 to the first jump, end or doubt.
 pub(crate) fn follow(e: &[u8]) -> Stop
-    requires { length e.now ≤ expression-most }
+    requires { length e.now ≤ expression_most }
     ensures { Followed e.now result }
 {
     let mut at = 0;

@@ -46,7 +46,7 @@ fn heights_by(
 fn fill(rows: &[[u8; 4]; 53], e: &[u8], heights: &mut [u8; sizes::EXPRESSION_MOST])
     requires rows { rows.now ≡ table }
     requires acceptable { Acceptable e.now }
-    requires blank { heights.old ≡ replicate expression-most unreached }
+    requires blank { heights.old ≡ replicate expression_most unreached }
     ensures { Arrivals e.now heights.new }
 {
     heights[0] = 0;

@@ -178,7 +178,7 @@ impl Stack {
     pub const DEPTH: usize = sizes::STACK_CELLS;
 
     pub fn empty() -> Stack
-        ensures { (result.height ≡ 0) × (result.cells ≡ replicate stack-cells 0) }
+        ensures { (result.height ≡ 0) × (result.cells ≡ replicate stack_cells 0) }
     {
         Stack {
             cells: [0u64; Stack::DEPTH],
@@ -188,7 +188,7 @@ impl Stack {
 
     // Whether so many cells fit.
     pub fn fits(height: usize) -> bool
-        ensures { Decides result height stack-cells }
+        ensures { Decides result height stack_cells }
     {
         height <= Stack::DEPTH
     }
@@ -203,7 +203,7 @@ impl Stack {
     // The cell `depth` below the top.
     pub fn below(cells: &[u64; Stack::DEPTH], height: usize, depth: usize) -> u64
         requires depth { depth < height }
-        requires height { height ≤ stack-cells }
+        requires height { height ≤ stack_cells }
         ensures { result ≡ get_or (held cells.now height) depth 0 }
     {
         cells[height - 1 - depth]
@@ -212,9 +212,9 @@ impl Stack {
     // Puts `cell` in the place of the `count` topmost ones. The answer is the new height.
     pub fn replace(cells: &mut [u64; Stack::DEPTH], height: usize, count: usize, cell: u64) -> usize
         requires count { count ≤ height }
-        requires room { height - count < stack-cells }
-        requires cells { length cells.old ≡ stack-cells }
-        ensures { (result ≡ height - count + 1) × (held cells.new result ≡ cell ∷ drop count (held cells.old height)) × (length cells.new ≡ stack-cells) }
+        requires room { height - count < stack_cells }
+        requires cells { length cells.old ≡ stack_cells }
+        ensures { (result ≡ height - count + 1) × (held cells.new result ≡ cell ∷ drop count (held cells.old height)) × (length cells.new ≡ stack_cells) }
     {
         cells[height - count] = cell;
         height - count + 1

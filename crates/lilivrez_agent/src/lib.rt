@@ -10,7 +10,7 @@ pub mod running;
 // The version of this archive.
 #[unsafe(no_mangle)]
 pub extern "C" fn lilivrez_agent_version() -> u32
-    ensures { result ≡ version-number }
+    ensures { result ≡ version_number }
 {
     version::NUMBER
 }

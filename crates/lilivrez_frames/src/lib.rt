@@ -10,7 +10,7 @@ pub mod reading;
 // The version of this archive.
 #[unsafe(no_mangle)]
 pub extern "C" fn lilivrez_frames_version() -> u32
-    ensures { result ≡ version-number }
+    ensures { result ≡ version_number }
 {
     version::NUMBER
 }

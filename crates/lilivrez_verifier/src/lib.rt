@@ -31,7 +31,7 @@ pub extern "C" fn lilivrez_verify(expression: &[u8], out: &mut [u64; 4]) -> u32
 // The version of this archive.
 #[unsafe(no_mangle)]
 pub extern "C" fn lilivrez_verifier_version() -> u32
-    ensures { result ≡ version-number }
+    ensures { result ≡ version_number }
 {
     version::NUMBER
 }

@@ -29,7 +29,7 @@ pub struct Next {
 // The next start, by the row of the opcode. A caller names the opcode by a literal, so that the row is known when this
 // is compiled.
 pub fn next_of(rows: &[[u8; 4]; 53], opcode: u8, at: usize) -> usize
-    requires { (rows.now ≡ table) × ((opcode < 53) × (at < expression-most)) }
+    requires { (rows.now ≡ table) × ((opcode < 53) × (at < expression_most)) }
     ensures { result ≡ at + 1 + get_or (row (class_of opcode)) 0 0 }
 {
     let row = isa::known_row(rows, opcode);
@@ -47,7 +47,7 @@ pub fn needed_of(rows: &[[u8; 4]; 53], opcode: u8) -> usize
 
 // The height after the instruction, by the row of the opcode: cells needed are taken, cells left come in their place.
 pub fn height_of(rows: &[[u8; 4]; 53], opcode: u8, height: usize) -> usize
-    requires { (rows.now ≡ table) × ((opcode < 53) × ((get_or (row (class_of opcode)) 1 0 ≤ height) × (height ≤ stack-cells))) }
+    requires { (rows.now ≡ table) × ((opcode < 53) × ((get_or (row (class_of opcode)) 1 0 ≤ height) × (height ≤ stack_cells))) }
     ensures { result ≡ height - get_or (row (class_of opcode)) 1 0 + get_or (row (class_of opcode)) 2 0 }
 {
     let row = isa::known_row(rows, opcode);
@@ -196,7 +196,7 @@ pub fn do_zero_ext(
     height: usize,
     put: usize,
 ) -> Next
-    requires { Here rows.now code.now cells.old zero-ext 0x2a at height }
+    requires { Here rows.now code.now cells.old zero_ext_of 0x2a at height }
     ensures { DidCells code.now at put (held cells.old height) (zero_ext_done (operand code.now at) (held cells.old height)) result cells.new }
 {
     let next = next_of(rows, opcode::ZERO_EXT, at);
@@ -399,7 +399,7 @@ pub fn do_if_goto(
     height: usize,
     put: usize,
 ) -> Next
-    requires { Here rows.now code.now cells.now if-goto 0x20 at height }
+    requires { Here rows.now code.now cells.now if_goto 0x20 at height }
     ensures { DidCells code.now at put (held cells.now height) nothing_left result cells.now }
 {
     let cell = Stack::below(cells, height, 0);

@@ -58,7 +58,7 @@ fn verify_short(rows: &[[u8; 4]; 53], e: &[u8]) -> Verification
 
 // The others have tables for 1,024 bytes.
 fn verify_long(rows: &[[u8; 4]; 53], e: &[u8]) -> Verification
-    requires { (rows.now ≡ table) × (1 ≤ length e.now) × (length e.now ≤ expression-most) }
+    requires { (rows.now ≡ table) × (1 ≤ length e.now) × (length e.now ≤ expression_most) }
     ensures { verdict_of result ≡ verdict e.now }
 {
     let mut marks = [false; sizes::EXPRESSION_MOST];
@@ -84,7 +84,7 @@ fn pass_all(
     heights: &mut [u8],
     distances: &mut [u16],
 ) -> Verification
-    requires { (rows.now ≡ table) × (1 ≤ length e.now) × (length e.now ≤ expression-most) × Unmarked e.now marks.old jumps.old × Unmeasured e.now heights.old distances.old }
+    requires { (rows.now ≡ table) × (1 ≤ length e.now) × (length e.now ≤ expression_most) × Unmarked e.now marks.old jumps.old × Unmeasured e.now heights.old distances.old }
     ensures { verdict_of result ≡ verdict e.now }
 {
     match pass1::scan(rows, e, marks, jumps) {

@@ -55,7 +55,7 @@ fn fault_at(kind: u8, e: &[u8], at: usize) -> u8
 // there are now.
 fn note(kind: u8, at: usize, jumps: &mut [u16], count: usize) -> usize
     requires sizes { (at < 1024) × (count ≤ 341) }
-    requires room { (kind-goto ≤ kind → kind ≤ kind-if-goto → count < length jumps.old) }
+    requires room { (kind_goto ≤ kind → kind ≤ kind_if_goto → count < length jumps.old) }
     ensures { Notes (is_jump kind) at count jumps.old result jumps.new }
 {
     if kind < isa::GOTO {
@@ -71,7 +71,7 @@ fn note(kind: u8, at: usize, jumps: &mut [u16], count: usize) -> usize
 // Looks at the instruction at `at`. Most are plain: they have no refusal here and are no jumps.
 fn look(kind: u8, e: &[u8], at: usize, jumps: &mut [u16], count: usize) -> Noting
     requires start { (at < 1024) × (count ≤ 341) × (next_start e.now at ≤ length e.now) × (kind ≡ kind_at e.now at) }
-    requires room { (kind-goto ≤ kind → kind ≤ kind-if-goto → count < length jumps.old) }
+    requires room { (kind_goto ≤ kind → kind ≤ kind_if_goto → count < length jumps.old) }
     ensures { (result.fault ≡ fault1 e.now at) × Notes (is_jump kind) at count jumps.old result.noted jumps.new }
 {
     if kind == isa::PLAIN {
@@ -87,7 +87,7 @@ fn look(kind: u8, e: &[u8], at: usize, jumps: &mut [u16], count: usize) -> Notin
 
 pub(crate) fn scan(rows: &[[u8; 4]; 53], e: &[u8], marks: &mut [bool], jumps: &mut [u16]) -> ScanEnd
     requires rows { rows.now ≡ table }
-    requires size { length e.now ≤ expression-most }
+    requires size { length e.now ≤ expression_most }
     requires unmarked { Unmarked e.now marks.old jumps.old }
     ensures { Scanned e.now result marks.new jumps.new }
 {

@@ -19,7 +19,7 @@ pub(crate) enum AimEnd {
 
 // The refusal of pass 2 at the jump at `at`, or 0.
 fn fault_at(e: &[u8], marks: &[bool], at: usize) -> u8
-    requires { (length e.now ≤ expression-most) × Decodes e.now × Marked e.now marks.now × (is_start e.now at ≡ true) × (jumps e.now at ≡ true) }
+    requires { (length e.now ≤ expression_most) × Decodes e.now × Marked e.now marks.now × (is_start e.now at ≡ true) × (jumps e.now at ≡ true) }
     ensures { result ≡ fault2 e.now at }
 {
     let target = isa::operand_at(e, at, 2) as usize;
@@ -37,7 +37,7 @@ fn fault_at(e: &[u8], marks: &[bool], at: usize) -> u8
 }
 
 pub(crate) fn aim(e: &[u8], marks: &[bool], jumps: &[u16], count: usize) -> AimEnd
-    requires { (length e.now ≤ expression-most) × Decodes e.now × Marked e.now marks.now × JumpsNoted e.now jumps.now count }
+    requires { (length e.now ≤ expression_most) × Decodes e.now × Marked e.now marks.now × JumpsNoted e.now jumps.now count }
     ensures { result ≡ aim_of (pass2 e.now) }
 {
     let mut i = 0;

@@ -115,7 +115,7 @@ fn step_jump(
     distances: &mut [u16],
 ) -> Carry
     requires reached { ReachedStart e.now at s.height s.distance heights.old distances.old }
-    requires jump { (kind-goto ≤ kind_at e.now at) × (kind_at e.now at ≤ kind-if-goto) × (row.needed ≡ needed_cells e.now at) × (row.left ≡ left_cells e.now at) × (is_off ≡ runs_off e.now at) }
+    requires jump { (kind_goto ≤ kind_at e.now at) × (kind_at e.now at ≤ kind_if_goto) × (row.needed ≡ needed_cells e.now at) × (row.left ≡ left_cells e.now at) × (is_off ≡ runs_off e.now at) }
     ensures { Effected e.now at s.height s.distance s.greatest s.longest result × Brings e.now at s.height s.distance result heights.old distances.old heights.new distances.new }
 {
     let after = effect_by(
@@ -144,7 +144,7 @@ fn step_other(
     distances: &mut [u16],
 ) -> Carry
     requires reached { ReachedStart e.now at s.height s.distance heights.old distances.old }
-    requires straight { (next ≡ next_start e.now at) × (kind ≡ kind_at e.now at) × (kind-pick ≤ kind) }
+    requires straight { (next ≡ next_start e.now at) × (kind ≡ kind_at e.now at) × (kind_pick ≤ kind) }
     ensures { ReachedStep e.now at s.height s.distance s.greatest s.longest result heights.old distances.old heights.new distances.new }
 {
     let is_off = e.len() <= next;
@@ -236,7 +236,7 @@ pub(crate) fn measure(
     heights: &mut [u8],
     distances: &mut [u16],
 ) -> MeasureEnd
-    requires { (rows.now ≡ table) × (length e.now ≤ expression-most) × Decodes e.now × Aims e.now × Unmeasured e.now heights.old distances.old }
+    requires { (rows.now ≡ table) × (length e.now ≤ expression_most) × Decodes e.now × Aims e.now × Unmeasured e.now heights.old distances.old }
     ensures { result ≡ measure_of (pass3 one e.now) }
 {
     let mut at = 0;

@@ -140,7 +140,7 @@ fn divide(bytes: &[u8], wanted: u64) -> Split
 
 // Record number `index` of the frame whose records these bytes are, from `start` on.
 fn read_in(bytes: &[u8], tag: Tag, start: usize, index: u64) -> RecordAnswer
-    requires { start + length bytes.now ≤ buffer-most }
+    requires { start + length bytes.now ≤ buffer_most }
     ensures { read_of result ≡ record_in index (framed_by tag start (division bytes.now)) }
 {
     match divide(bytes, index) {

@@ -33,7 +33,7 @@ struct Appended {
 // ---- records, or 21
 fn record_bytes(buffer: &mut [u8], put: usize, address: u64, bytes: &[u8]) -> Appended
     requires room { put ≤ length buffer.old }
-    requires size { length bytes.now ≤ record-most }
+    requires size { length bytes.now ≤ record_most }
     ensures { DidMake buffer.old put (fitting (length buffer.old - put) (memory address bytes.now)) result buffer.new }
 {
     let written = frames::append_memory(buffer, put, address, bytes);
@@ -100,7 +100,7 @@ fn record_range<'a>(
 
 // The most bytes that are searched.
 fn search_limit(size: u64) -> usize
-    ensures { result ≡ min size record-most }
+    ensures { result ≡ min size record_most }
 {
     if size < RECORD_MOST {
         return size as usize;
@@ -259,7 +259,7 @@ pub fn do_trace_quick<'a>(
     height: usize,
     put: usize,
 ) -> Next
-    requires here { Here rows.now code.now cells.now (trace-quick count) opcode at height }
+    requires here { Here rows.now code.now cells.now (trace_quick count) opcode at height }
     requires room { put ≤ length buffer.old }
     requires spans { spans_refusal (target image_first image.now work_first work.now) ≡ 0 }
     ensures { Did code.now at put (held cells.now height) buffer.old (trace_quick_done (target image_first image.now work_first work.now) (length buffer.old - put) (operand code.now at) (held cells.now height)) result cells.now buffer.new }

@@ -53,7 +53,7 @@ pub fn verify_noting(e: &[u8]) -> Noted
 
 // An expression that is no straight code, from its first jump on, or from an end that is not its last byte.
 fn verify_branching(e: &[u8], from: Stop) -> Noted
-    requires { (length e.now ≤ expression-most) × Following e.now from.at from.height from.count from.greatest from.sets }
+    requires { (length e.now ≤ expression_most) × Following e.now from.at from.height from.count from.greatest from.sets }
     ensures { (verdict_of result.answer ≡ verdict e.now) × (result.sets ≡ false → SetsNothing e.now) }
 {
     let state = acceptor::accept_branching(e, from);
