@@ -1,16 +1,16 @@
 -- The loops of `put_little` and `put_each`, over every count, and the moves of `put_two`.
 use mathlib.Core.List.{List}
-use mathlib.Core.Path.{◌≡◌, refl, ap, sym, ◌∙◌}
+use mathlib.Core.Path.{◌≡◌, refl, ap, ◌∙◌}
 use Prim.Native.Nat.{ℕ, ◌+◌, ◌-◌, ◌/◌, ◌%◌, ◌^◌, ◌≤◌, ◌<◌}
 use native.Mathlib.Nat.{pow-zero, pow-suc, div-div-eq-div-mul, div-one}
 use native.Mathlib.Numerals.{add-one}
 use native.Mathlib.Omega.{arith}
 use lib.ListN.{length, take, drop, set, get_or, length-set, length-drop}
-use lib.Seq.{take-suc, take-add, length-take-le, take_all}
+use lib.Seq.{take-suc, length-take-le, take_all}
 use Rattle.encoding.specs.LittleEndian.{little_bytes}
 use Rattle.encoding.specs.Written.{written_at}
 use Rattle.encoding.proofs.LittleNumbers.{length_little, little_snoc}
-use Rattle.encoding.proofs.Writing.{written_length, written_nothing, written_more, written_snoc, written_over, written_read}
+use Rattle.encoding.proofs.Writing.{written_length, written_nothing, written_snoc, written_over, written_read}
 
 -- k of the n bytes of v are written, and x is what is left of v
 pub record PuttingLittle (l : List ℕ) (a v n : ℕ) (m : List ℕ) (k x : ℕ) : Type 0 where

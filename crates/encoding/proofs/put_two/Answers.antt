@@ -1,0 +1,8 @@
+use Rattle.encoding.proofs.Putting.{two_moves}
+use Rattle.encoding.proofs.put_two.Goals as goal
+
+pub returns : goal.returns
+returns c =
+    two_moves c.args.out.now c.args.at c.args.bytes.now c.args.width c.requires.one c.requires.two
+    c.put_through.ensures
+    c.put_through-2.ensures
