@@ -1,7 +1,7 @@
 // Document 01's sizes.
-// An expression's bytes, at most.
 #![tactic(auto)]
 
+// An expression's bytes, at most.
 pub const EXPRESSION_MOST: usize = 1024;
 // The cells of the stack.
 pub const STACK_CELLS: usize = 64;
