@@ -55,7 +55,7 @@ pub const NO_SUCH_FRAME: u8 = 24;
 pub const NO_SUCH_RECORD: u8 = 25;
 
 // Number, offset and steps done. The offset is 0 where a refusal has none, the steps are 0 where nothing ran.
-#[derive(Drop)]
+#[derive(Clone, Copy)]
 pub struct Refusal {
     pub number: u8,
     pub offset: usize,
