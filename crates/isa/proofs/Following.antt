@@ -2,16 +2,15 @@
 use mathlib.Core.Bool.{true, false}
 use mathlib.Core.List.{List, [], ◌∷◌}
 use mathlib.Core.Path.{◌≡◌, refl, ap, sym, ◌∙◌}
-use mathlib.Core.Logic.{◌⊎◌, inl, inr, ⊎_elim}
+use mathlib.Core.Logic.{⊎_elim}
 use Prim.Native.Nat.{ℕ, zero, suc, ◌+◌, ◌-◌, ◌≤◌, ◌<◌}
 use native.Mathlib.Omega.{arith}
-use native.Mathlib.Decide.{ℕ_discrete}
 use lib.ListN.{length}
-use borrow.Author.Tests.{lt-ltb, le-ltb, eq-eqb, ne_eqb}
+use borrow.Author.Tests.{lt-ltb, le-ltb, ne_eqb}
 use Rattle.logic.proofs.Promises.{cases, no_true, member_cons, member_here, member_there}
 use Rattle.logic.specs.Tests.{member}
 use Rattle.isa.specs.Decode.{next}
-use Rattle.isa.specs.Starts.{starts_at_most, starts_from, starts, is_start}
+use Rattle.isa.specs.Starts.{starts_at_most, starts_from, is_start}
 
 -- ---- the two equations of starts_from
 at_end : (n : ℕ) (e : List ℕ) (i : ℕ) → length e ≤ i → starts_at_most n e i ≡ []

@@ -3,12 +3,11 @@
 use mathlib.Core.Bool.{true, false, cond}
 use mathlib.Core.List.{List, [], ◌∷◌, ◌++◌}
 use mathlib.Core.Path.{◌≡◌}
-use mathlib.Core.Logic.{◌⊎◌, ◌≢◌}
+use mathlib.Core.Logic.{◌≢◌}
 use Prim.Native.Nat.{ℕ, ◌+◌, ◌-◌, ◌≤◌, ◌<◌}
 use lib.ListN.{length, get_or, drop}
 use lib.Dec.{eqb}
 use Rattle.isa.specs.Classes.{Class, ref, class_of, row, kind, kind_unknown, kind_unsupported, kind_ext, kind_variable, kind_pick, kind_goto, kind_if_goto, kind_end}
-use Rattle.logic.specs.Tests.{member}
 use Rattle.isa.specs.Decode.{class_at, kind_at, operand_bytes, next, operand, picked, needed, left, height_after}
 use Rattle.isa.specs.Starts.{starts_from, is_start}
 use Rattle.isa.specs.Joining.Held.{held}
