@@ -1,0 +1,6 @@
+use Rattle.arithmetic.specs.Words.{less_unsigned}
+use Rattle.arithmetic.proofs.less_unsigned.Goals as goal
+
+pub returns : goal.returns
+unfolding less_unsigned
+returns c = c.truth.ensures

@@ -1,0 +1,6 @@
+use Rattle.arithmetic.specs.Words.{log_not}
+use Rattle.arithmetic.proofs.log_not.Goals as goal
+
+pub returns : goal.returns
+unfolding log_not
+returns c = c.truth.ensures
