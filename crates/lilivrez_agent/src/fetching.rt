@@ -9,8 +9,7 @@ use memory::Held;
 // Where the `size` bytes at `address` are. Returns the number of the refusal, or 0. Stores the number of the span that
 // lends them (0 none, 1 program image, 2 working memory) and the place of the first of them in that span. Every way
 // out stores both: nothing is stored before it is known which.
-#[unsafe(no_mangle)]
-pub extern "C" fn lilivrez_fetch<'a>(
+pub fn lilivrez_fetch<'a>(
     image_first: u64,
     image: &'a [u8],
     work_first: u64,

@@ -8,8 +8,7 @@ pub mod fetching;
 pub mod running;
 
 // The version of this archive.
-#[unsafe(no_mangle)]
-pub extern "C" fn lilivrez_agent_version() -> u32
+pub fn lilivrez_agent_version() -> u32
     ensures { result ≡ version_number }
 {
     version::NUMBER

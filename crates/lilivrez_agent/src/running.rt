@@ -34,8 +34,7 @@ fn store_outcome(outcome: Outcome, used: usize, out: &mut [u64; 6]) -> u32
 // Verifies the expression, checks the inputs, and runs it: at most `allowance` instructions. Returns the number of the
 // refusal, or 0 where the run completed. Stores the offset of the refusal, the steps, the used length, how many cells
 // the answer tells, the top and the cell beneath.
-#[unsafe(no_mangle)]
-pub extern "C" fn lilivrez_run<'a>(
+pub fn lilivrez_run<'a>(
     expression: &[u8],
     registers: &[u64],
     image_first: u64,
@@ -68,8 +67,7 @@ pub extern "C" fn lilivrez_run<'a>(
 }
 
 // The same without an allowance given: at most 1,024 instructions.
-#[unsafe(no_mangle)]
-pub extern "C" fn lilivrez_run_default<'a>(
+pub fn lilivrez_run_default<'a>(
     expression: &[u8],
     registers: &[u64],
     image_first: u64,

@@ -7,8 +7,7 @@ use reader::FrameAnswer;
 
 // Finds frame number `frame` and looks at none of its records. Returns the number of the refusal, or 0. Stores the
 // offset of the refusal, the tracepoint number, the start of the frame and the length of its records.
-#[unsafe(no_mangle)]
-pub extern "C" fn lilivrez_locate(buffer: &[u8], used: usize, frame: u64, out: &mut [u64; 4]) -> u32
+pub fn lilivrez_locate(buffer: &[u8], used: usize, frame: u64, out: &mut [u64; 4]) -> u32
     ensures number { result ≡ locate_number (located buffer.now used frame) }
     ensures values { out.new ≡ locate_values (located buffer.now used frame) }
 {
@@ -29,8 +28,7 @@ pub extern "C" fn lilivrez_locate(buffer: &[u8], used: usize, frame: u64, out: &
 // the refusal, the tracepoint number, the start of the frame, the length of its records and the place after the step.
 // That place is a variable of the caller: the walker's struct holds a reference, and only numbers and slices cross the
 // boundary.
-#[unsafe(no_mangle)]
-pub extern "C" fn lilivrez_walk(buffer: &[u8], place: usize, out: &mut [u64; 5]) -> u32
+pub fn lilivrez_walk(buffer: &[u8], place: usize, out: &mut [u64; 5]) -> u32
     ensures number { result ≡ locate_number (walked buffer.now place) }
     ensures values { out.new ≡ walk_values place (walked buffer.now place) }
 {

@@ -10,8 +10,7 @@ use reader::{CountAnswer, RecordAnswer, RecordStep};
 // refusal, or 0 where the record was read. Stores the offset of the refusal, the tracepoint number, the record's kind
 // (1 memory, 2 variable), then the address, the length and the place of its bytes in the buffer, or the variable's
 // number and value.
-#[unsafe(no_mangle)]
-pub extern "C" fn lilivrez_read(
+pub fn lilivrez_read(
     buffer: &[u8],
     used: usize,
     frame: u64,
@@ -41,8 +40,7 @@ pub extern "C" fn lilivrez_read(
 
 // Counts the records of frame number `frame`. Returns the number of the refusal, or 0. Stores the offset of the
 // refusal, the tracepoint number, the start of the frame, the length of its records and their number.
-#[unsafe(no_mangle)]
-pub extern "C" fn lilivrez_count(buffer: &[u8], used: usize, frame: u64, out: &mut [u64; 5]) -> u32
+pub fn lilivrez_count(buffer: &[u8], used: usize, frame: u64, out: &mut [u64; 5]) -> u32
     ensures number { result ≡ count_number (counting buffer.now used frame) }
     ensures values { out.new ≡ count_values (counting buffer.now used frame) }
 {
@@ -62,8 +60,7 @@ pub extern "C" fn lilivrez_count(buffer: &[u8], used: usize, frame: u64, out: &m
 // One step over the records that end at `end`: the record at `place`. Returns the number of the refusal, or 0. Stores
 // the offset of the refusal, the record's kind (1 memory, 2 variable), then the address, the length and the place of
 // its bytes in the buffer, or the variable's number and value, and the next place.
-#[unsafe(no_mangle)]
-pub extern "C" fn lilivrez_next_record(
+pub fn lilivrez_next_record(
     buffer: &[u8],
     end: usize,
     place: usize,

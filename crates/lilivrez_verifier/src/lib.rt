@@ -10,8 +10,7 @@ use verdict::Verification;
 
 // Returns the number of the refusal, or 0 where the expression is accepted. Stores the offset of the refusal, the
 // instruction count, the greatest height and the longest walk.
-#[unsafe(no_mangle)]
-pub extern "C" fn lilivrez_verify(expression: &[u8], out: &mut [u64; 4]) -> u32
+pub fn lilivrez_verify(expression: &[u8], out: &mut [u64; 4]) -> u32
     ensures number { result ≡ verdict_number (verdict expression.now) }
     ensures values { out.new ≡ verdict_values (verdict expression.now) }
 {
@@ -29,8 +28,7 @@ pub extern "C" fn lilivrez_verify(expression: &[u8], out: &mut [u64; 4]) -> u32
 }
 
 // The version of this archive.
-#[unsafe(no_mangle)]
-pub extern "C" fn lilivrez_verifier_version() -> u32
+pub fn lilivrez_verifier_version() -> u32
     ensures { result ≡ version_number }
 {
     version::NUMBER
