@@ -1,5 +1,5 @@
 //! Links the archive of each feature that is on, from the folder LILIVREZ_LIB_DIR, or where that is not set from the
-//! one that `rt staticlib` writes to.
+//! one that `tools/build` writes to.
 use std::env;
 use std::path::{Path, PathBuf};
 use std::process;
@@ -32,7 +32,7 @@ fn link(libraries: &Path, name: &str) {
     if !archive.is_file() {
         eprintln!(
             "{} is missing: set LILIVREZ_LIB_DIR to the absolute path of the folder that has lib{name}.a, \
-             or build it with rt staticlib {name}",
+             or build it with tools/build {name}",
             archive.display()
         );
         process::exit(1);
