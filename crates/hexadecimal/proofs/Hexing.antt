@@ -8,7 +8,7 @@ use mathlib.Core.Path.{◌≡◌, refl, sym, ap, ◌∙◌}
 use mathlib.Core.List.{List, [], ◌∷◌, ◌++◌, append-nil, append_assoc}
 use lib.Dec.{ltb, leb, eqb}
 use lib.ListN.{length, drop, set, get_or, length-set, length-append, length-drop, drop_of_length-le, get_or-eq_default}
-use lib.Seq.{drop-cons, drop-drop, set_at, get_or-drop}
+use lib.Seq.{drop-cons, drop-drop, set_at}
 use borrow.Author.Tests.{le-leb, lt-leb, lt-ltb, le-ltb, eq-eqb, ne_eqb, eqb-true}
 use Rattle.hexadecimal.specs.Hex.{is_between, is_blank, is_separator, line_length, digit_of, after_high, digits_of, is_prefixed, by_prefix, is_digit_at, prefixed_of, token_of}
 use Rattle.hexadecimal.specs.Hex.{End, whole, wrong, single, full, HexReading, stopped, with_bytes, by_token, read_past_of, read_from, reading_of, answer_for, hex_answer_of, written_over}

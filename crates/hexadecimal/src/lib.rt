@@ -13,7 +13,7 @@ use text_buffer::append;
 
 // What a text is: so many bytes; or not hexadecimal, at a position counted from 0; or hexadecimal
 // with a digit left over at the end; or more bytes than the buffer has room for.
-#[derive(Drop)]
+#[derive(Clone, Copy)]
 pub enum HexAnswer {
     Bytes(usize),
     NotHex(usize),

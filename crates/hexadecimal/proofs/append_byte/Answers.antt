@@ -1,0 +1,10 @@
+-- `hexadecimal::append_byte` meets its contract. Assumes nothing.
+use Rattle.text_buffer.proofs.Promises.{appends_same}
+use Rattle.hexadecimal.proofs.HexWriting.{pair_is}
+use Rattle.hexadecimal.proofs.append_byte.Goals as goal
+
+pub returns : goal.returns
+returns c =
+    let p = c.append in
+    let pair = pair_is c.args.byte _ _ c.character.ensures c.character-2.ensures in
+    record { count = p.ensures.count; text = appends_same _ _ pair p.ensures.text }
