@@ -4,39 +4,42 @@
 
 ghost use Rattle.std.specs.Prelude.{false, ◌≡◌};
 
-use libc::STDIN_FILENO;
+use std::io::{Read, Stdin};
+use system_errors::number_of;
 
 // The line's length: one more than its buffer's where it is longer, whatever follows. What is read
 // and not yet taken lies from `from` to `to`. At the end of the input there is no line; `is_failed`
-// says that a read failed there.
+// says that a read failed there, by the number `errno` of the system's error.
 #[derive(Drop)]
-pub struct Line {
-    pub fd: i32,
+pub struct Line<R> {
+    pub reader: R,
     pub len: usize,
     pub from: usize,
     pub to: usize,
     pub is_line: bool,
     pub is_failed: bool,
+    pub errno: i32,
 }
 
 // Before the first line of an open file nothing is read.
-pub fn start_of(fd: i32) -> Line
-    ensures { (result.fd ≡ fd) × (result.len ≡ 0) × (result.from ≡ 0) × (result.to ≡ 0) × (result.is_line ≡ false) × (result.is_failed ≡ false) }
+pub fn start_of<R: Read>(reader: R) -> Line<R>
+    ensures { (result.reader ≡ reader) × (result.len ≡ 0) × (result.from ≡ 0) × (result.to ≡ 0) × (result.is_line ≡ false) × (result.is_failed ≡ false) }
 {
     Line {
-        fd,
+        reader,
         len: 0,
         from: 0,
         to: 0,
         is_line: false,
         is_failed: false,
+        errno: 0,
     }
 }
 
-pub fn start() -> Line
+pub fn start(rt: &HostRuntime) -> Line<Stdin>
     ensures { (result.len ≡ 0) × (result.from ≡ 0) × (result.to ≡ 0) × (result.is_line ≡ false) × (result.is_failed ≡ false) }
 {
-    start_of(STDIN_FILENO)
+    start_of(rt.stdin())
 }
 
 // One character more.
@@ -88,45 +91,60 @@ fn filled<'a>(input: &'a [u8], to: usize) -> &'a [u8] {
 }
 
 // At the end of the input: what follows the last line end, where something does.
-fn last(fd: i32, len: usize, is_failed: bool) -> Line {
+fn last<R: Read>(reader: R, len: usize) -> Line<R> {
     Line {
-        fd,
+        reader,
         len,
         from: 0,
         to: 0,
         is_line: 0 < len,
-        is_failed,
+        is_failed: false,
+        errno: 0,
+    }
+}
+
+// A read failed.
+fn failed<R: Read>(reader: R, len: usize, errno: i32) -> Line<R> {
+    Line {
+        reader,
+        len,
+        from: 0,
+        to: 0,
+        is_line: 0 < len,
+        is_failed: true,
+        errno,
     }
 }
 
 // The next line; a last one with no line end counts too. The count of turns is there for the proof that the loop ends;
 // no input uses it up.
-pub fn next(input: &mut [u8], text: &mut [u8], before: Line) -> Line {
-    let fd = before.fd;
+pub fn next<R: Read>(input: &mut [u8], text: &mut [u8], before: Line<R>) -> Line<R> {
+    let mut reader = before.reader;
     let mut len = 0;
     let mut from = before.from;
     let mut to = before.to;
-    let mut turns = u64::MAX;
-    while turns > 0 {
+    for _ in 0..u64::MAX {
         let taken = take_some(text, len, filled(input, to), from);
         len = taken.len;
         if taken.is_ended {
             return Line {
-                fd,
+                reader,
                 len,
                 from: taken.from,
                 to,
                 is_line: true,
                 is_failed: false,
+                errno: 0,
             };
         }
         from = 0;
-        let got = libc::read(fd, input);
-        to = io::count(got, input);
-        if to == 0 {
-            return last(fd, len, got < 0);
+        match reader.read(input) {
+            Ok(got) => to = got,
+            Err(error) => return failed(reader, len, number_of(&error)),
         }
-        turns -= 1;
+        if to == 0 {
+            return last(reader, len);
+        }
     }
-    last(fd, len, false)
+    last(reader, len)
 }
