@@ -48,33 +48,60 @@ use Rattle.demands.proofs.Numbers as numbers
 use Rattle.demands.proofs.Leaving as leaving
 use Rattle.demands.proofs.Telling as telling
 use Rattle.demands.proofs.Reporting as reporting
-use Rattle.encoding.proofs.bytes_known as bytes_known
-use Rattle.encoding.proofs.words_known as words_known
-use Rattle.lilivrez_verifier.proofs.lilivrez_verify as lilivrez_verify
-use Rattle.lilivrez_verifier.proofs.lilivrez_verifier_version as lilivrez_verifier_version
-use Rattle.lilivrez_agent.proofs.fetching.lilivrez_fetch as lilivrez_fetch
-use Rattle.lilivrez_agent.proofs.running.lilivrez_run as lilivrez_run
-use Rattle.lilivrez_agent.proofs.running.lilivrez_run_default as lilivrez_run_default
-use Rattle.lilivrez_agent.proofs.lilivrez_agent_version as lilivrez_agent_version
-use Rattle.lilivrez_frames.proofs.reading.lilivrez_read as lilivrez_read
-use Rattle.lilivrez_frames.proofs.reading.lilivrez_count as lilivrez_count
-use Rattle.lilivrez_frames.proofs.reading.lilivrez_next_record as lilivrez_next_record
-use Rattle.lilivrez_frames.proofs.finding.lilivrez_locate as lilivrez_locate
-use Rattle.lilivrez_frames.proofs.finding.lilivrez_walk as lilivrez_walk
-use Rattle.lilivrez_frames.proofs.lilivrez_frames_version as lilivrez_frames_version
-use Rattle.verifier.proofs.verify as verify
-use Rattle.verifier.proofs.verify_noting as verify_noting
-use Rattle.memory.proofs.fetch as fetch
-use Rattle.memory.proofs.fetch_refusal as fetch_refusal_of
-use Rattle.runner.proofs.run as run
-use Rattle.runner.proofs.run_default as run_default
-use Rattle.reader.proofs.read as read
-use Rattle.reader.proofs.count_records as count_records
-use Rattle.reader.proofs.next_record as next_record_of
-use Rattle.reader.proofs.locate as locate
-use Rattle.reader.proofs.walk as walk
-use Rattle.walker.proofs.new as walker_new
-use Rattle.walker.proofs.step as walker_step
+use Rattle.encoding.specs.contracts.bytes_known as bytes_known
+use Rattle.encoding.proofs.bytes_known as bytes_known_proof
+use Rattle.encoding.specs.contracts.words_known as words_known
+use Rattle.encoding.proofs.words_known as words_known_proof
+use Rattle.lilivrez_verifier.specs.contracts.lilivrez_verify as lilivrez_verify
+use Rattle.lilivrez_verifier.proofs.lilivrez_verify as lilivrez_verify_proof
+use Rattle.lilivrez_verifier.specs.contracts.lilivrez_verifier_version as lilivrez_verifier_version
+use Rattle.lilivrez_verifier.proofs.lilivrez_verifier_version as lilivrez_verifier_version_proof
+use Rattle.lilivrez_agent.specs.contracts.fetching.lilivrez_fetch as lilivrez_fetch
+use Rattle.lilivrez_agent.proofs.fetching.lilivrez_fetch as lilivrez_fetch_proof
+use Rattle.lilivrez_agent.specs.contracts.running.lilivrez_run as lilivrez_run
+use Rattle.lilivrez_agent.proofs.running.lilivrez_run as lilivrez_run_proof
+use Rattle.lilivrez_agent.specs.contracts.running.lilivrez_run_default as lilivrez_run_default
+use Rattle.lilivrez_agent.proofs.running.lilivrez_run_default as lilivrez_run_default_proof
+use Rattle.lilivrez_agent.specs.contracts.lilivrez_agent_version as lilivrez_agent_version
+use Rattle.lilivrez_agent.proofs.lilivrez_agent_version as lilivrez_agent_version_proof
+use Rattle.lilivrez_frames.specs.contracts.reading.lilivrez_read as lilivrez_read
+use Rattle.lilivrez_frames.proofs.reading.lilivrez_read as lilivrez_read_proof
+use Rattle.lilivrez_frames.specs.contracts.reading.lilivrez_count as lilivrez_count
+use Rattle.lilivrez_frames.proofs.reading.lilivrez_count as lilivrez_count_proof
+use Rattle.lilivrez_frames.specs.contracts.reading.lilivrez_next_record as lilivrez_next_record
+use Rattle.lilivrez_frames.proofs.reading.lilivrez_next_record as lilivrez_next_record_proof
+use Rattle.lilivrez_frames.specs.contracts.finding.lilivrez_locate as lilivrez_locate
+use Rattle.lilivrez_frames.proofs.finding.lilivrez_locate as lilivrez_locate_proof
+use Rattle.lilivrez_frames.specs.contracts.finding.lilivrez_walk as lilivrez_walk
+use Rattle.lilivrez_frames.proofs.finding.lilivrez_walk as lilivrez_walk_proof
+use Rattle.lilivrez_frames.specs.contracts.lilivrez_frames_version as lilivrez_frames_version
+use Rattle.lilivrez_frames.proofs.lilivrez_frames_version as lilivrez_frames_version_proof
+use Rattle.verifier.specs.contracts.verify as verify
+use Rattle.verifier.proofs.verify as verify_proof
+use Rattle.verifier.specs.contracts.verify_noting as verify_noting
+use Rattle.verifier.proofs.verify_noting as verify_noting_proof
+use Rattle.memory.specs.contracts.fetch as fetch
+use Rattle.memory.proofs.fetch as fetch_proof
+use Rattle.memory.specs.contracts.fetch_refusal as fetch_refusal_of
+use Rattle.memory.proofs.fetch_refusal as fetch_refusal_of_proof
+use Rattle.runner.specs.contracts.run as run
+use Rattle.runner.proofs.run as run_proof
+use Rattle.runner.specs.contracts.run_default as run_default
+use Rattle.runner.proofs.run_default as run_default_proof
+use Rattle.reader.specs.contracts.read as read
+use Rattle.reader.proofs.read as read_proof
+use Rattle.reader.specs.contracts.count_records as count_records
+use Rattle.reader.proofs.count_records as count_records_proof
+use Rattle.reader.specs.contracts.next_record as next_record_of
+use Rattle.reader.proofs.next_record as next_record_of_proof
+use Rattle.reader.specs.contracts.locate as locate
+use Rattle.reader.proofs.locate as locate_proof
+use Rattle.reader.specs.contracts.walk as walk
+use Rattle.reader.proofs.walk as walk_proof
+use Rattle.walker.specs.contracts.new as walker_new
+use Rattle.walker.proofs.new as walker_new_proof
+use Rattle.walker.specs.contracts.step as walker_step
+use Rattle.walker.proofs.step as walker_step_proof
 
 -- ==== Demand 1
 -- "Every entry point answers on any bytes, spans, registers, buffer and step allowance, and refuses bad ones itself."
@@ -84,128 +111,128 @@ use Rattle.walker.proofs.step as walker_step
 module _ {M : Type 1} where
   -- What is lent is what its type says: any slice has bytes, or words, throughout. So `AllBytes` and `AllWords`, which
   -- the crates' pages ask for, hold of any arguments; of a run `RunNumbers` and `Ran` say it.
-  pub lent_bytes : Answers M bytes_known.ended bytes_known.Symbol.routine (λ _ (bytes, _) _ _. AllBytes bytes.now)
-  lent_bytes = bytes_known.Met.met
+  pub lent_bytes : Answers M bytes_known.ended bytes_known_proof.Symbol.name bytes_known_proof.Symbol.code (λ _ (bytes, _) _ _. AllBytes bytes.now)
+  lent_bytes = bytes_known_proof.Met.met
 
-  pub lent_words : Answers M words_known.ended words_known.Symbol.routine (λ _ (words, _) _ _. AllWords words.now)
-  lent_words = words_known.Met.met
+  pub lent_words : Answers M words_known.ended words_known_proof.Symbol.name words_known_proof.Symbol.code (λ _ (words, _) _ _. AllWords words.now)
+  lent_words = words_known_proof.Met.met
 
   -- the functions that console, unit, lab and desk link: what is returned, and what is stored in `out`
-  pub lilivrez_verify_answers : Exports M lilivrez_verify.ended lilivrez_verify.Symbol.routine
+  pub lilivrez_verify_answers : Exports M lilivrez_verify.ended lilivrez_verify_proof.Symbol.name lilivrez_verify_proof.Symbol.code
       (λ _ (expression, _) r _. r ≡ verifier.verdict_number (verdict expression.now))
       (λ _ (expression, _) _ (_, (out, _)). out.now ≡ verifier.verdict_values (verdict expression.now))
-  lilivrez_verify_answers = lilivrez_verify.Met.met
+  lilivrez_verify_answers = lilivrez_verify_proof.Met.met
 
-  pub lilivrez_fetch_answers : Exports M lilivrez_fetch.ended lilivrez_fetch.Symbol.routine
+  pub lilivrez_fetch_answers : Exports M lilivrez_fetch.ended lilivrez_fetch_proof.Symbol.name lilivrez_fetch_proof.Symbol.code
       (λ _ (image-first, (image, (work-first, (work, (address, (size, _)))))) r _. r ≡ fetch_refusal (target image-first image.now work-first work.now) address size)
       (λ _ (image-first, (image, (work-first, (work, (address, (size, _)))))) _ (_, (_, (_, (_, (_, (_, (out, _)))))))
       . out.now ≡ fetch_values (lent_at (target image-first image.now work-first work.now) address size))
-  lilivrez_fetch_answers = lilivrez_fetch.Met.met
+  lilivrez_fetch_answers = lilivrez_fetch_proof.Met.met
 
-  pub lilivrez_run_answers : Answers M lilivrez_run.ended lilivrez_run.Symbol.routine
+  pub lilivrez_run_answers : Answers M lilivrez_run.ended lilivrez_run_proof.Symbol.name lilivrez_run_proof.Symbol.code
       (λ _ (expression, (registers, (image-first, (image, (work-first, (work, (variables, (buffer, (used, (tracepoint, (allowance, _)))))))))))
       r (_, (_, (_, (_, (_, (_, (variables', (buffer', (_, (_, (_, (out, _))))))))))))
       . RunNumbers (given expression.now registers.now variables.now (target image-first image.now work-first work.now) tracepoint buffer.now used allowance)
       r out.now variables'.now buffer'.now)
-  lilivrez_run_answers = lilivrez_run.Met.met
+  lilivrez_run_answers = lilivrez_run_proof.Met.met
 
-  pub lilivrez_run_default_answers : Answers M lilivrez_run_default.ended lilivrez_run_default.Symbol.routine
+  pub lilivrez_run_default_answers : Answers M lilivrez_run_default.ended lilivrez_run_default_proof.Symbol.name lilivrez_run_default_proof.Symbol.code
       (λ _ (expression, (registers, (image-first, (image, (work-first, (work, (variables, (buffer, (used, (tracepoint, _))))))))))
       r (_, (_, (_, (_, (_, (_, (variables', (buffer', (_, (_, (out, _)))))))))))
       . RunNumbers (given expression.now registers.now variables.now (target image-first image.now work-first work.now) tracepoint buffer.now used default_allowance)
       r out.now variables'.now buffer'.now)
-  lilivrez_run_default_answers = lilivrez_run_default.Met.met
+  lilivrez_run_default_answers = lilivrez_run_default_proof.Met.met
 
-  pub lilivrez_read_answers : Exports M lilivrez_read.ended lilivrez_read.Symbol.routine
+  pub lilivrez_read_answers : Exports M lilivrez_read.ended lilivrez_read_proof.Symbol.name lilivrez_read_proof.Symbol.code
       (λ _ (buffer, (used, (frame, (index, _)))) r _. r ≡ read_number_of (reading buffer.now used frame index))
       (λ _ (buffer, (used, (frame, (index, _)))) _ (_, (_, (_, (_, (out, _))))). out.now ≡ read_values (reading buffer.now used frame index))
-  lilivrez_read_answers = lilivrez_read.Met.met
+  lilivrez_read_answers = lilivrez_read_proof.Met.met
 
-  pub lilivrez_count_answers : Exports M lilivrez_count.ended lilivrez_count.Symbol.routine
+  pub lilivrez_count_answers : Exports M lilivrez_count.ended lilivrez_count_proof.Symbol.name lilivrez_count_proof.Symbol.code
       (λ _ (buffer, (used, (frame, _))) r _. r ≡ count_number (counting buffer.now used frame))
       (λ _ (buffer, (used, (frame, _))) _ (_, (_, (_, (out, _)))). out.now ≡ count_values (counting buffer.now used frame))
-  lilivrez_count_answers = lilivrez_count.Met.met
+  lilivrez_count_answers = lilivrez_count_proof.Met.met
 
-  pub lilivrez_locate_answers : Exports M lilivrez_locate.ended lilivrez_locate.Symbol.routine
+  pub lilivrez_locate_answers : Exports M lilivrez_locate.ended lilivrez_locate_proof.Symbol.name lilivrez_locate_proof.Symbol.code
       (λ _ (buffer, (used, (frame, _))) r _. r ≡ locate_number (located buffer.now used frame))
       (λ _ (buffer, (used, (frame, _))) _ (_, (_, (_, (out, _)))). out.now ≡ locate_values (located buffer.now used frame))
-  lilivrez_locate_answers = lilivrez_locate.Met.met
+  lilivrez_locate_answers = lilivrez_locate_proof.Met.met
 
-  pub lilivrez_walk_answers : Exports M lilivrez_walk.ended lilivrez_walk.Symbol.routine
+  pub lilivrez_walk_answers : Exports M lilivrez_walk.ended lilivrez_walk_proof.Symbol.name lilivrez_walk_proof.Symbol.code
       (λ _ (buffer, (place, _)) r _. r ≡ locate_number (walked buffer.now place))
       (λ _ (buffer, (place, _)) _ (_, (_, (out, _))). out.now ≡ walk_values place (walked buffer.now place))
-  lilivrez_walk_answers = lilivrez_walk.Met.met
+  lilivrez_walk_answers = lilivrez_walk_proof.Met.met
 
-  pub lilivrez_next_record_answers : Exports M lilivrez_next_record.ended lilivrez_next_record.Symbol.routine
+  pub lilivrez_next_record_answers : Exports M lilivrez_next_record.ended lilivrez_next_record_proof.Symbol.name lilivrez_next_record_proof.Symbol.code
       (λ _ (buffer, (end, (place, _))) r _. r ≡ step_number (next_record buffer.now end place))
       (λ _ (buffer, (end, (place, _))) _ (_, (_, (_, (out, _)))). out.now ≡ step_values place (next_record buffer.now end place))
-  lilivrez_next_record_answers = lilivrez_next_record.Met.met
+  lilivrez_next_record_answers = lilivrez_next_record_proof.Met.met
 
   -- each archive's version
-  pub lilivrez_verifier_version_answers : Answers M lilivrez_verifier_version.ended lilivrez_verifier_version.Symbol.routine (λ _ _ r _. r ≡ version_number)
-  lilivrez_verifier_version_answers = lilivrez_verifier_version.Met.met
+  pub lilivrez_verifier_version_answers : Answers M lilivrez_verifier_version.ended lilivrez_verifier_version_proof.Symbol.name lilivrez_verifier_version_proof.Symbol.code (λ _ _ r _. r ≡ version_number)
+  lilivrez_verifier_version_answers = lilivrez_verifier_version_proof.Met.met
 
-  pub lilivrez_agent_version_answers : Answers M lilivrez_agent_version.ended lilivrez_agent_version.Symbol.routine (λ _ _ r _. r ≡ version_number)
-  lilivrez_agent_version_answers = lilivrez_agent_version.Met.met
+  pub lilivrez_agent_version_answers : Answers M lilivrez_agent_version.ended lilivrez_agent_version_proof.Symbol.name lilivrez_agent_version_proof.Symbol.code (λ _ _ r _. r ≡ version_number)
+  lilivrez_agent_version_answers = lilivrez_agent_version_proof.Met.met
 
-  pub lilivrez_frames_version_answers : Answers M lilivrez_frames_version.ended lilivrez_frames_version.Symbol.routine (λ _ _ r _. r ≡ version_number)
-  lilivrez_frames_version_answers = lilivrez_frames_version.Met.met
+  pub lilivrez_frames_version_answers : Answers M lilivrez_frames_version.ended lilivrez_frames_version_proof.Symbol.name lilivrez_frames_version_proof.Symbol.code (λ _ _ r _. r ≡ version_number)
+  lilivrez_frames_version_answers = lilivrez_frames_version_proof.Met.met
 
   -- the entries behind them, for code of the same toolchain
-  pub verify_answers : Answers M verify.ended verify.Symbol.routine (λ _ (expression, _) r _. verdict_of r ≡ verdict expression.now)
-  verify_answers = verify.Met.met
+  pub verify_answers : Answers M verify.ended verify_proof.Symbol.name verify_proof.Symbol.code (λ _ (expression, _) r _. verdict_of r ≡ verdict expression.now)
+  verify_answers = verify_proof.Met.met
 
-  pub verify_noting_answers : Answers M verify_noting.ended verify_noting.Symbol.routine
+  pub verify_noting_answers : Answers M verify_noting.ended verify_noting_proof.Symbol.name verify_noting_proof.Symbol.code
       (λ _ (expression, _) r _. (verdict_of r.answer ≡ verdict expression.now) × (r.sets ≡ false → SetsNothing expression.now))
-  verify_noting_answers = verify_noting.Met.met
+  verify_noting_answers = verify_noting_proof.Met.met
 
-  pub fetch_answers : Answers M fetch.ended fetch.Symbol.routine
+  pub fetch_answers : Answers M fetch.ended fetch_proof.Symbol.name fetch_proof.Symbol.code
       (λ _ (image-first, (image, (work-first, (work, (address, (size, _)))))) r _. r.now ≡ fetched (target image-first image.now work-first work.now) address size)
-  fetch_answers = fetch.Met.met
+  fetch_answers = fetch_proof.Met.met
 
-  pub fetch_refusal_answers : Answers M fetch_refusal_of.ended fetch_refusal_of.Symbol.routine
+  pub fetch_refusal_answers : Answers M fetch_refusal_of.ended fetch_refusal_of_proof.Symbol.name fetch_refusal_of_proof.Symbol.code
       (λ _ (image-first, (image, (work-first, (work, (address, (size, _)))))) r _. r ≡ fetch_refusal (target image-first image.now work-first work.now) address size)
-  fetch_refusal_answers = fetch_refusal_of.Met.met
+  fetch_refusal_answers = fetch_refusal_of_proof.Met.met
 
-  pub run_answers : Answers M run.ended run.Symbol.routine
+  pub run_answers : Answers M run.ended run_proof.Symbol.name run_proof.Symbol.code
       (λ _ (expression, (registers, (image-first, (image, (work-first, (work, (variables, (buffer, (used, (tracepoint, (allowance, _)))))))))))
       r (_, (_, (_, (_, (_, (_, (variables', (buffer', _))))))))
       . Ran (given expression.now registers.now variables.now (target image-first image.now work-first work.now) tracepoint buffer.now used allowance)
       r variables'.now buffer'.now)
-  run_answers = run.Met.met
+  run_answers = run_proof.Met.met
 
-  pub run_default_answers : Answers M run_default.ended run_default.Symbol.routine
+  pub run_default_answers : Answers M run_default.ended run_default_proof.Symbol.name run_default_proof.Symbol.code
       (λ _ (expression, (registers, (image-first, (image, (work-first, (work, (variables, (buffer, (used, (tracepoint, _))))))))))
       r (_, (_, (_, (_, (_, (_, (variables', (buffer', _))))))))
       . Ran (given expression.now registers.now variables.now (target image-first image.now work-first work.now) tracepoint buffer.now used default_allowance)
       r variables'.now buffer'.now)
-  run_default_answers = run_default.Met.met
+  run_default_answers = run_default_proof.Met.met
 
-  pub read_answers : Answers M read.ended read.Symbol.routine (λ _ (buffer, (used, (frame, (index, _)))) r _. read_of r ≡ reading buffer.now used frame index)
-  read_answers = read.Met.met
+  pub read_answers : Answers M read.ended read_proof.Symbol.name read_proof.Symbol.code (λ _ (buffer, (used, (frame, (index, _)))) r _. read_of r ≡ reading buffer.now used frame index)
+  read_answers = read_proof.Met.met
 
-  pub count_records_answers : Answers M count_records.ended count_records.Symbol.routine (λ _ (buffer, (used, (frame, _))) r _. counted_of r ≡ counting buffer.now used frame)
-  count_records_answers = count_records.Met.met
+  pub count_records_answers : Answers M count_records.ended count_records_proof.Symbol.name count_records_proof.Symbol.code (λ _ (buffer, (used, (frame, _))) r _. counted_of r ≡ counting buffer.now used frame)
+  count_records_answers = count_records_proof.Met.met
 
-  pub locate_answers : Answers M locate.ended locate.Symbol.routine (λ _ (buffer, (used, (frame, _))) r _. located_of r ≡ located buffer.now used frame)
-  locate_answers = locate.Met.met
+  pub locate_answers : Answers M locate.ended locate_proof.Symbol.name locate_proof.Symbol.code (λ _ (buffer, (used, (frame, _))) r _. located_of r ≡ located buffer.now used frame)
+  locate_answers = locate_proof.Met.met
 
-  pub walk_answers : Answers M walk.ended walk.Symbol.routine (λ _ (buffer, (place, _)) r _. located_of r ≡ walked buffer.now place)
-  walk_answers = walk.Met.met
+  pub walk_answers : Answers M walk.ended walk_proof.Symbol.name walk_proof.Symbol.code (λ _ (buffer, (place, _)) r _. located_of r ≡ walked buffer.now place)
+  walk_answers = walk_proof.Met.met
 
-  pub next_record_answers : Answers M next_record_of.ended next_record_of.Symbol.routine (λ _ (buffer, (end, (place, _))) r _. r ≡ next_record buffer.now end place)
-  next_record_answers = next_record_of.Met.met
+  pub next_record_answers : Answers M next_record_of.ended next_record_of_proof.Symbol.name next_record_of_proof.Symbol.code (λ _ (buffer, (end, (place, _))) r _. r ≡ next_record buffer.now end place)
+  next_record_answers = next_record_of_proof.Met.met
 
   -- the walker: made before the newest frame, and one step
-  pub walker_new_answers : Answers M walker_new.ended walker_new.Symbol.routine (λ _ (buffer, (used, _)) r _. (r.buffer ≡ buffer) × (r.place ≡ used))
-  walker_new_answers = walker_new.Met.met
+  pub walker_new_answers : Answers M walker_new.ended walker_new_proof.Symbol.name walker_new_proof.Symbol.code (λ _ (buffer, (used, _)) r _. (r.buffer ≡ buffer) × (r.place ≡ used))
+  walker_new_answers = walker_new_proof.Met.met
 
-  pub walker_step_answers : Answers M walker_step.ended walker_step.Symbol.routine
+  pub walker_step_answers : Answers M walker_step.ended walker_step_proof.Symbol.name walker_step_proof.Symbol.code
       (λ _ (walker, _) r (walker', _).
       let buffer = walker.now.buffer in
       let place = walker.now.place in
       (located_of r ≡ walked buffer.now place) × (walker'.now.buffer ≡ buffer) × (walker'.now.place ≡ place_after place (walked buffer.now place)))
-  walker_step_answers = walker_step.Met.met
+  walker_step_answers = walker_step_proof.Met.met
 
 -- "Each refusal has one number from document 01's table." The numbers that an entry gives are exactly those that the
 -- table (specs/Refusals.antt) has for it, and 0 where nothing is refused.

@@ -2,8 +2,9 @@
 -- spans, registers, buffer and step allowance" (demand 1).
 use seplogic.Ra.Ura.{Ura}
 use base.Logic.{SProp, sep, emp}
+use mir.Syntax.{Callee}
 use prog.Model.{Model}
-use prog.Routine.{Routine}
+use prog.Wired.{Code, Wired}
 use types.Logic.{Logic}
 use contract.Lifetimes.{Lfts}
 use contract.Monad.{fact}
@@ -17,18 +18,19 @@ abbrev pub Fact : Ended → Type 1
 Fact T = (κs : Lfts T.signature.lifetimes) → Args T.signature κs → Res T.signature κs → AtExit T κs → Type 0
 
 -- whatever it is called with, nothing is asked of the caller (`requires` is empty), it ends, and what `ensures` tells
--- then holds
-abbrev pub Met : (M : Type 1) (T : Ended) → Routine
+-- then holds: of the function of this name, wherever the name means this code
+abbrev pub Met : (M : Type 1) (T : Ended) → Callee → Code
     → ((𝓤 : Ura M) (κs : Lfts T.signature.lifetimes) → Args T.signature κs → Res T.signature κs → AtExit T κs → SProp 𝓤) → Type 2
-Met M T routine ensures =
+Met M T name code ensures =
     (𝓤 : Ura M) (𝓛 : Logic 𝓤) (𝓜 : Model 𝓤 𝓛.H) (𝓡 : Running 𝓤 𝓛.H 𝓜)
-    → Meets 𝓛 T.signature (𝓡.run routine)
+    → Wired 𝓡.env code
+    → Meets 𝓛 T.signature (𝓡.run (𝓡.env name))
     (closing 𝓛 T (λ κs a. record { ghost = Unit {0}; requires = λ _. emp 𝓤; ensures = λ _ r e. ensures 𝓤 κs a r e }))
 
 -- it answers so
-abbrev pub Answers : (M : Type 1) (T : Ended) → Routine → Fact T → Type 2
-Answers M T routine p = Met M T routine (λ 𝓤 κs a r e. fact 𝓤 (p κs a r e))
+abbrev pub Answers : (M : Type 1) (T : Ended) → Callee → Code → Fact T → Type 2
+Answers M T name code p = Met M T name code (λ 𝓤 κs a r e. fact 𝓤 (p κs a r e))
 
 -- an exported function: what it returns, and what it stores
-abbrev pub Exports : (M : Type 1) (T : Ended) → Routine → Fact T → Fact T → Type 2
-Exports M T routine p q = Met M T routine (λ 𝓤 κs a r e. sep 𝓤 (fact 𝓤 (p κs a r e)) (fact 𝓤 (q κs a r e)))
+abbrev pub Exports : (M : Type 1) (T : Ended) → Callee → Code → Fact T → Fact T → Type 2
+Exports M T name code p q = Met M T name code (λ 𝓤 κs a r e. sep 𝓤 (fact 𝓤 (p κs a r e)) (fact 𝓤 (q κs a r e)))
