@@ -1,6 +1,6 @@
 -- Laws of passes 1 and 2: the equations of the first fault, which fault a pass finds, and what is known of every start
 -- where there is none.
-use mathlib.Core.Bool.{Bool, true, false, not, ◌&&◌, ◌||◌}
+use mathlib.Core.Bool.{Bool, true, false, ◌&&◌, ◌||◌}
 use mathlib.Core.List.{List, [], ◌∷◌}
 use mathlib.Core.Path.{◌≡◌, refl, ap, sym, ◌∙◌}
 use mathlib.Core.Logic.{◌↔◌, ⊎_elim, ◌≢◌}

@@ -1,6 +1,6 @@
 -- An expression with very many walks. Document 01's starred examples, verified and run, are one list in the crate
 -- `machine`; the others, and many random expressions, go through the program `verifier_vectors`.
-use Rattle.std.specs.Prelude.{Bool, true, false, ◌&&◌, List, [], ◌∷◌, ℕ, zero, suc, ◌+◌, ◌/◌, ◌%◌, T, eqb}
+use Rattle.std.specs.Prelude.{Bool, false, ◌&&◌, List, [], ◌∷◌, ℕ, zero, suc, ◌+◌, ◌/◌, ◌%◌, T, eqb}
 use Rattle.encoding.specs.BigEndian.{big_endian}
 use Rattle.isa.specs.Classes.{opcodes, class_of}
 use Rattle.isa.specs.Decode.{operand, picked, needed, left, height_after}
