@@ -10,7 +10,7 @@ use hexadecimal::is_blank;
 pub mod numbers;
 
 // Where a word of a line is. The two are equal where there is no word.
-#[derive(Drop)]
+#[derive(Clone, Copy)]
 pub struct Place {
     pub start: usize,
     pub end: usize,

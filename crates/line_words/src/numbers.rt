@@ -6,7 +6,7 @@ ghost use Rattle.line_words.specs.Numbers.{is_digit, value_from, limited, number
 use hexadecimal::digit;
 
 // What a word is as a number of 64 bits: its value; more than they can hold; or no number.
-#[derive(Drop)]
+#[derive(Clone, Copy)]
 pub enum Number {
     Value(u64),
     Large,

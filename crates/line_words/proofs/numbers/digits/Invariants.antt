@@ -1,0 +1,11 @@
+use Prim.Native.Nat.{◌-◌}
+use lib.ListN.{length}
+use Rattle.line_words.specs.Numbers.{is_digit}
+use Rattle.line_words.proofs.Leading.{Counting}
+use Rattle.line_words.proofs.numbers.digits.Given as goal
+
+abbrev pub invariant-loop-n : goal.invariant-loop-n
+invariant-loop-n l = Counting (is_digit l.base) l.text l.n
+
+abbrev pub decreases-loop-n : goal.decreases-loop-n
+decreases-loop-n l = length l.text - l.n
