@@ -1,8 +1,8 @@
 -- An end, and the room that its trailer needs.
 use mathlib.Core.Bool.{Bool, true, false, cond}
-use mathlib.Core.List.{List, [], ◌∷◌}
+use mathlib.Core.List.{List, []}
 use mathlib.Core.Path.{◌≡◌, refl, sym, ◌∙◌}
-use Prim.Native.Nat.{ℕ, zero, suc, ◌+◌, ◌-◌, ◌≤◌, ◌<◌}
+use Prim.Native.Nat.{ℕ, zero, suc, ◌+◌, ◌-◌, ◌≤◌}
 use native.Mathlib.Omega.{arith}
 use lib.ListN.{length}
 use lib.Dec.{eqb, leb}
@@ -16,7 +16,7 @@ use Rattle.frames.specs.Trailer.{trailer_size}
 use Rattle.frames.proofs.Promises.{fit_lengths}
 use Rattle.verdict.specs.Verdict.{Verdict, accepted, refused, verdict}
 use Rattle.machine.specs.Given.{Given, Fixed, fixed_of, State, begin, free_of}
-use Rattle.machine.specs.Meaning.{Done, leaves, faults, end_done, done}
+use Rattle.machine.specs.Meaning.{leaves, faults, end_done, done}
 use Rattle.machine.specs.Machine.{Answer, Ended, completed, stopped, moved, onward, moves}
 use Rattle.machine.specs.Run.{input_tests, input_refusal, after_verdict, stepped, ended}
 use Rattle.machine.proofs.Cells.{by_test}

@@ -2,7 +2,7 @@
 use mathlib.Core.List.{List, [], ◌∷◌, ◌++◌}
 use mathlib.Core.Logic.{◌≢◌}
 use mathlib.Core.Path.{◌≡◌, refl}
-use Prim.Native.Nat.{ℕ, zero, suc, ◌-◌, ◌≤◌, min}
+use Prim.Native.Nat.{ℕ, zero, suc, ◌≤◌, min}
 use native.Mathlib.Omega.{arith}
 use lib.ListN.{length, get_or, take}
 use lib.Dec.{eqb, leb, ltb}
@@ -14,7 +14,7 @@ use Rattle.memory.specs.Spans.{Target, spans_refusal}
 use Rattle.memory.specs.Fetch.{readable, fetch_refusal, fetched, rest_of}
 use Rattle.memory.specs.FirstZero.{Sought, up_to_zero, all_of_size, cut_short, searched}
 use Rattle.memory.proofs.Promises.{readable_means, fetch_0, fetched_length, fetched_part, rest_readable, rest_fetched, search_found, search_reached}
-use Rattle.frames.specs.Record.{Record, memory, variable, encode, encode_all}
+use Rattle.frames.specs.Record.{Record, memory, variable, encode}
 use Rattle.frames.specs.Trailer.{trailer_size}
 use Rattle.verdict.specs.Verdict.{Verdict, accepted, refused, verdict}
 use Rattle.verdict.specs.Acceptance.{Accepted, Means}

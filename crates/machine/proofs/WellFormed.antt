@@ -1,9 +1,9 @@
 -- Every record that a run makes is well formed: it can be encoded and read back. Cells and variables are words all
 -- along.
-use mathlib.Core.List.{List, [], ◌∷◌, ◌++◌}
+use mathlib.Core.List.{List, [], ◌∷◌}
 use mathlib.Core.Logic.{⊎_elim}
 use mathlib.Core.Path.{◌≡◌, refl}
-use Prim.Native.Nat.{ℕ, zero, suc, ◌+◌, ◌-◌, ◌^◌, ◌≤◌, ◌<◌}
+use Prim.Native.Nat.{ℕ, ◌+◌, ◌-◌, ◌^◌, ◌≤◌, ◌<◌}
 use native.Mathlib.Nat.{pow-le-pow_right}
 use native.Mathlib.Omega.{arith}
 use lib.ListN.{length, get_or, take, drop, length-take}
@@ -18,7 +18,7 @@ use Rattle.arithmetic.proofs.Promises as word
 use Rattle.memory.specs.Spans.{Target}
 use Rattle.memory.specs.Fetch.{holds_range, readable, fetch_refusal, fetched}
 use Rattle.memory.proofs.Promises.{spans_0}
-use Rattle.frames.specs.Record.{variable, encode_all, WellFormed, AllWellFormed}
+use Rattle.frames.specs.Record.{variable, WellFormed, AllWellFormed}
 use Rattle.frames.specs.Trailer.{trailer_size, tag_of, TagFits}
 use Rattle.verdict.specs.Acceptance.{Accepted}
 use Rattle.machine.specs.Given.{Given, fixed_of, State, free_of}

@@ -13,7 +13,7 @@ use Rattle.refusals.specs.Refusal.{refusal, refusal_after}
 use Rattle.memory.specs.Spans.{target, ends_past, share_address}
 use Rattle.memory.specs.Fetch.{holds_range, readable, fetch_refusal, fetched, rest_of}
 use Rattle.memory.specs.FirstZero.{searched}
-use Rattle.frames.specs.Record.{Record, memory, encode, encode_all}
+use Rattle.frames.specs.Record.{memory, encode, encode_all}
 use Rattle.frames.specs.Trailer.{encode_trailer}
 use Rattle.frames.specs.Frame.{encode_frame}
 use Rattle.verdict.specs.Fault.{first}
