@@ -1,5 +1,6 @@
 #!/usr/bin/env python3
 """Gives the names in the clauses of src/ the spelling of the file's `ghost use` lines, where respell.py left a dash in them.
+Refusal 11's number then gets its name back, `runs_off`, which a predicate of pass 3 had taken: that is `runs_off_end`.
 
 usage: respell_clauses.py          at the top of the repository, after respell.py; a second run changes nothing
 """
@@ -30,6 +31,21 @@ def main():
         if turned != lines:
             with open(path, "w", encoding="utf-8") as f:
                 f.write("\n".join(turned))
+
+    exchange()
+
+
+def exchange():
+    paths = [p for end in ("rt", "antt", "edit") for p in glob.glob(f"crates/**/*.{end}", recursive=True) if "/out/" not in p]
+    texts = {p: open(p, encoding="utf-8").read() for p in sorted(paths)}
+    if not any("runs_off_lem" in t for t in texts.values()):
+        return
+    new = {"runs_off": "runs_off_end", "runs_off_lem": "runs_off"}
+    for path, text in texts.items():
+        turned = WORD.sub(lambda m: new.get(m[0], m[0]), text)
+        if turned != text:
+            with open(path, "w", encoding="utf-8") as f:
+                f.write(turned)
 
 
 main()

@@ -17,7 +17,7 @@ use Rattle.isa.proofs.Promises.{after_by, needed_row, left_row, end_cells, from_
 use Rattle.verdict.specs.Fault.{first}
 use Rattle.verdict.specs.Pass1.{fault1, pass1, Decodes}
 use Rattle.verdict.specs.Pass2.{fault2, pass2, Aims}
-use Rattle.verdict.specs.Pass3.{unreached, joined, arrive, raise, runs_off, pass3}
+use Rattle.verdict.specs.Pass3.{unreached, joined, arrive, raise, runs_off_end, pass3}
 use Rattle.verdict.specs.Verdict.{accepted, verdict, SetsNothing}
 use Rattle.verdict.proofs.Deciding.{first_nil, first_ok, clear_holds, f_plain, f_forward, off_goto, off_end, off_other, fault_none, joined_same, raises, if_kept, jumps_true, verdict_3}
 use Rattle.passes.specs.Joining.Tables.{Unmeasured, Incoming, Effected, Brings, ReachedStep, Measuring}
@@ -168,7 +168,7 @@ brought_in {e} {i} {hs} {ds} c b s p q low = record {
 }
 
 -- ---- one instruction that is not refused
-module _ (e : List ℕ) (k h d g l : ℕ) (low : h ≤ 64) (cells : needed e k ≤ h) (room : height_after e k h ≤ 64) (stays : runs_off e k ≡ false) where
+module _ (e : List ℕ) (k h d g l : ℕ) (low : h ≤ 64) (cells : needed e k ≤ h) (room : height_after e k h ≤ 64) (stays : runs_off_end e k ≡ false) where
   effected : (x : ℕ) → x ≡ max g (height_after e k h) → Effected e k h d g l (record { fault = 0; height = height_after e k h; distance = d + 1; greatest = x; longest = l })
   effected x p = record {
     number = fault_none e k h (omega arith) cells room stays;
@@ -345,7 +345,7 @@ module _ {e : List ℕ} {s : Progress} {hs ds : List ℕ} (a : BranchingJoined e
         (pending_noted a.pending (operand e s.at) (height_after e s.at s.height) (next e s.at) (omega (arith, jump_after, w.low)) w.forward w.inside a.stands.heights_long
         (omega (arith, b.next_is)) r.noted w.new w.old)
 
-    jump_effected : runs_off e s.at ≡ false
+    jump_effected : runs_off_end e s.at ≡ false
         → Effected e s.at s.height s.distance s.greatest s.longest
         (record { fault = 0; height = height_after e s.at s.height; distance = s.distance + 1; greatest = s.greatest; longest = s.longest })
     jump_effected o =

@@ -24,7 +24,7 @@ use Rattle.frames.specs.Trailer.{decode_trailer}
 use Rattle.verdict.specs.Fault.{first}
 use Rattle.verdict.specs.Pass1.{fault1}
 use Rattle.verdict.specs.Pass2.{fault2}
-use Rattle.verdict.specs.Pass3.{arrive, raise, at_target, at_next, runs_off, fault3, longer, heights_along, heights0, distances0, pass3}
+use Rattle.verdict.specs.Pass3.{arrive, raise, at_target, at_next, runs_off_end, fault3, longer, heights_along, heights0, distances0, pass3}
 use Rattle.verdict.specs.Verdict.{after1, after2, after3, verdict}
 use Rattle.machine.specs.Words.{binary_word, zero_divisor}
 use Rattle.machine.specs.Recording.{fitting, range_made}
@@ -109,7 +109,7 @@ examples_typed walk = tt
 examples_typed next_record_of = tt
 
 examples_give : (x : Entry) → map (number x) (examples x) ≡ 0 ∷ numbers_of x
-unfolding examples refusal_table verify_number run_number ended input_refusal ends_past share_address verdict after1 after2 after3 pass3 heights0 distances0 heights_along longer fault3 runs_off at_next at_target raise arrive fault2 fault1 first is_start starts_from starts_at_most height_after left needed picked operand class_of opcodes big_endian moves done binary_done ref_done reg_done end_done stack_after variables_after offset_after binary_word zero_divisor range_made fitting holds_range readable fetch_refusal encode encode_all little_endian little_bytes read_number_of count_number locate_number step_number reading counting framed next_record record_at located walked frame_back frame_before decode_trailer divide divide_at_most decode decode_memory decode_variable
+unfolding examples refusal_table verify_number run_number ended input_refusal ends_past share_address verdict after1 after2 after3 pass3 heights0 distances0 heights_along longer fault3 runs_off_end at_next at_target raise arrive fault2 fault1 first is_start starts_from starts_at_most height_after left needed picked operand class_of opcodes big_endian moves done binary_done ref_done reg_done end_done stack_after variables_after offset_after binary_word zero_divisor range_made fitting holds_range readable fetch_refusal encode encode_all little_endian little_bytes read_number_of count_number locate_number step_number reading counting framed next_record record_at located walked frame_back frame_before decode_trailer divide divide_at_most decode decode_memory decode_variable
 examples_give verify = refl
 examples_give fetch = refl
 examples_give run = refl

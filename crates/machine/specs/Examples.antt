@@ -19,7 +19,7 @@ use Rattle.frames.specs.Frame.{encode_frame}
 use Rattle.verdict.specs.Fault.{first}
 use Rattle.verdict.specs.Pass1.{fault1}
 use Rattle.verdict.specs.Pass2.{fault2}
-use Rattle.verdict.specs.Pass3.{arrive, raise, at_target, at_next, runs_off, fault3, longer, heights_along, heights0, distances0, pass3}
+use Rattle.verdict.specs.Pass3.{arrive, raise, at_target, at_next, runs_off_end, fault3, longer, heights_along, heights0, distances0, pass3}
 use Rattle.verdict.specs.Verdict.{Verdict, accepted, refused, after1, after2, after3, verdict}
 use Rattle.machine.specs.Given.{Given, given}
 use Rattle.machine.specs.Words.{binary_word, zero_divisor}
@@ -103,5 +103,5 @@ starred =
     ∷ []
 
 pub examples : map (λ (c : List ℕ × (Verdict × (Ended × List ℕ))). run c.0) starred ≡ map (λ (c : List ℕ × (Verdict × (Ended × List ℕ))). c.1) starred
-unfolding starred ended input_refusal left_bytes ends_past share_address verdict after1 after2 after3 pass3 heights0 distances0 heights_along longer fault3 runs_off at_next at_target raise arrive fault2 fault1 first is_start starts_from starts_at_most height_after left needed picked operand class_of opcodes big_endian big_bytes moves done binary_done end_done stack_after variables_after offset_after binary_word zero_divisor div_signed inserted lsh rsh_signed rsh_unsigned ext range_made to_zero_made fitting holds_range readable fetch_refusal fetched rest_of searched encode encode_all encode_trailer encode_frame little_bytes
+unfolding starred ended input_refusal left_bytes ends_past share_address verdict after1 after2 after3 pass3 heights0 distances0 heights_along longer fault3 runs_off_end at_next at_target raise arrive fault2 fault1 first is_start starts_from starts_at_most height_after left needed picked operand class_of opcodes big_endian big_bytes moves done binary_done end_done stack_after variables_after offset_after binary_word zero_divisor div_signed inserted lsh rsh_signed rsh_unsigned ext range_made to_zero_made fitting holds_range readable fetch_refusal fetched rest_of searched encode encode_all encode_trailer encode_frame little_bytes
 examples = refl

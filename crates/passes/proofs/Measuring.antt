@@ -19,7 +19,7 @@ use Rattle.isa.specs.Walk.{one}
 use Rattle.isa.proofs.Promises.{known_low, from_end, from_next, start_in, start_next, start_zero}
 use Rattle.verdict.specs.Pass1.{Decodes}
 use Rattle.verdict.specs.Pass2.{Aims}
-use Rattle.verdict.specs.Pass3.{unreached, differing, joined, arrive, raise, at_target, at_next, pass_on, runs_off, fault3, stopped, heights_along, heights0, distances0, pass3}
+use Rattle.verdict.specs.Pass3.{unreached, differing, joined, arrive, raise, at_target, at_next, pass_on, runs_off_end, fault3, stopped, heights_along, heights0, distances0, pass3}
 use Rattle.passes.specs.Joining.Tables.{measure_of, Unmeasured, Passing, arrived, farther, Incoming, Halting, Effected, Brings, ReachedStep, Turned, AgreeFrom, Measuring}
 use Rattle.passes.specs.declared.pass3.MeasureEnd.TheVariants.{Fine, Refused as MeasureEnd-as-Refused}
 use Rattle.passes.specs.declared.brought.Flow.{Flow}

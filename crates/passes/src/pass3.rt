@@ -8,7 +8,7 @@ ghost use Rattle.isa.specs.Joining.Rows.{table};
 ghost use Rattle.isa.specs.Walk.{one};
 ghost use Rattle.verdict.specs.Pass1.{Decodes};
 ghost use Rattle.verdict.specs.Pass2.{Aims};
-ghost use Rattle.verdict.specs.Pass3.{unreached, differing, joined, arrive, raise, runs_off, pass3};
+ghost use Rattle.verdict.specs.Pass3.{unreached, differing, joined, arrive, raise, runs_off_end, pass3};
 ghost use Rattle.passes.specs.Joining.Tables.{measure_of, Unmeasured, Incoming, Standing, ReachedStart, Halting, Effected, Brings, ReachedStep, Turned};
 
 use crate::brought;
@@ -83,7 +83,7 @@ fn halted(s: Carry, longest: usize) -> Carry
 // What an instruction that needs and leaves so many cells makes of what it is reached with, or its refusal.
 fn effect_by(s: Carry, needed: usize, left: usize, is_off: bool) -> Carry
     requires { (s.height < 256) × (s.height ≢ differing) × (s.distance ≤ 1024) × (left < 512) }
-    ensures { (e : List ℕ) (k : ℕ) → needed ≡ needed_cells e k → left ≡ left_cells e k → is_off ≡ runs_off e k → Effected e k s.height s.distance s.greatest s.longest result }
+    ensures { (e : List ℕ) (k : ℕ) → needed ≡ needed_cells e k → left ≡ left_cells e k → is_off ≡ runs_off_end e k → Effected e k s.height s.distance s.greatest s.longest result }
 {
     if !Stack::has(s.height, needed) {
         return refused(refusals::CELLS_TOO_FEW);
@@ -115,7 +115,7 @@ fn step_jump(
     distances: &mut [u16],
 ) -> Carry
     requires reached { ReachedStart e.now at s.height s.distance heights.old distances.old }
-    requires jump { (kind_goto ≤ kind_at e.now at) × (kind_at e.now at ≤ kind_if_goto) × (row.needed ≡ needed_cells e.now at) × (row.left ≡ left_cells e.now at) × (is_off ≡ runs_off e.now at) }
+    requires jump { (kind_goto ≤ kind_at e.now at) × (kind_at e.now at ≤ kind_if_goto) × (row.needed ≡ needed_cells e.now at) × (row.left ≡ left_cells e.now at) × (is_off ≡ runs_off_end e.now at) }
     ensures { Effected e.now at s.height s.distance s.greatest s.longest result × Brings e.now at s.height s.distance result heights.old distances.old heights.new distances.new }
 {
     let after = effect_by(

@@ -36,8 +36,8 @@ cells_too_few = 9
 abbrev pub cells_too_many : ℕ
 cells_too_many = 10
 
-abbrev pub runs_off_lem : ℕ
-runs_off_lem = 11
+abbrev pub runs_off : ℕ
+runs_off = 11
 
 -- "first address + length exceeds 2^64; spans share an address"
 abbrev pub span_past_end : ℕ

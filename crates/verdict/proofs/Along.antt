@@ -21,7 +21,7 @@ use Rattle.logic.proofs.Promises.{cases, no_true}
 use Rattle.refusals.proofs.Promises.{none_holds}
 use Rattle.isa.proofs.Promises.{start_in, by_starts, from_next, from_end, start_next, start_zero}
 use Rattle.verdict.specs.Pass2.{Aims}
-use Rattle.verdict.specs.Pass3.{unreached, differing, joined, arrive, raise, at_target, at_next, pass_on, runs_off, tests3, fault3, longer, Pass3End, done, stopped, heights_along, heights0, distances0, pass3}
+use Rattle.verdict.specs.Pass3.{unreached, differing, joined, arrive, raise, at_target, at_next, pass_on, runs_off_end, tests3, fault3, longer, Pass3End, done, stopped, heights_along, heights0, distances0, pass3}
 use Rattle.verdict.proofs.Decoded.{aims_target}
 
 -- ---- the equations of pass 3
@@ -62,7 +62,7 @@ pub record Fine (e : List ℕ) (k h : ℕ) : Type 0 where
 
 -- where no test of pass 3 holds
 pub fine : (e : List ℕ) (k h : ℕ) → fault3 e k h ≡ 0 → Fine e k h
-unfolding fault3 runs_off
+unfolding fault3 runs_off_end
 fine e k h q =
     let p = none_holds (tests3 e k h) tt q in
     record {

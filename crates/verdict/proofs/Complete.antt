@@ -20,7 +20,7 @@ use Rattle.logic.proofs.Promises.{cases}
 use Rattle.isa.proofs.Promises.{start_in, start_zero, walk_last, walk_on, weigh_on}
 use Rattle.verdict.specs.Pass1.{Decodes}
 use Rattle.verdict.specs.Pass2.{Aims}
-use Rattle.verdict.specs.Pass3.{unreached, differing, joined, arrive, raise, at_target, at_next, pass_on, runs_off, fault3, longer, done, stopped, heights0, distances0, pass3}
+use Rattle.verdict.specs.Pass3.{unreached, differing, joined, arrive, raise, at_target, at_next, pass_on, runs_off_end, fault3, longer, done, stopped, heights0, distances0, pass3}
 use Rattle.verdict.specs.Acceptance.{ToEnd, Broken, two_heights, cells_lack, cells_exceed, walk_leaves}
 use Rattle.verdict.proofs.Decoded.{decodes_fits}
 use Rattle.verdict.proofs.Along.{Fine, fine, after_start, after_target, after_next, joined_first, joined_same, joined_differing, longer_end, longer_other, heights0_length, heights0_zero, heights0_other, distances0_length, distances0_at, Preserved, EndsKeeping, pass3_ends}
@@ -137,7 +137,7 @@ module _ (e : List ℕ) (k : ℕ) (decodes : Decodes e) where
 
   -- a fault at the start k, from what its cell of heights holds
   seen_broken : {f : ℕ → ℕ} {c d : ℕ} → Seen f e k c d → c ≢ unreached → fault3 e k c ≢ 0 → Broken e k (fault3 e k c)
-  unfolding fault3 runs_off
+  unfolding fault3 runs_off_end
   seen_broken (unseen p q) r = absurd (r p)
   seen_broken {c = c} (twice p v w n x) r = λ z. (v.0 ∷ w.0 ∷ [], two_heights (rw (eq-eqb c differing p)) refl v.1 w.1 n)
   seen_broken {c = c} (once l w x) r =

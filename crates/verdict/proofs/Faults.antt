@@ -16,7 +16,7 @@ use Rattle.isa.specs.Starts.{is_start}
 use Rattle.isa.proofs.Promises.{no_operands, known_low, start_below}
 use Rattle.verdict.specs.Pass1.{operand_wrong, fault1}
 use Rattle.verdict.specs.Pass2.{fault2}
-use Rattle.verdict.specs.Pass3.{differing, runs_off, fault3}
+use Rattle.verdict.specs.Pass3.{differing, runs_off_end, fault3}
 
 -- ---- pass 1, at an offset
 module _ (e : List ℕ) (i : ℕ) where
@@ -86,16 +86,16 @@ f_other e k j = rw j
 -- ---- pass 3
 module _ (e : List ℕ) (k : ℕ) where
   -- ---- running on past the last byte
-  pub off_goto : kind_at e k ≡ kind_goto → false ≡ runs_off e k
-  unfolding runs_off
+  pub off_goto : kind_at e k ≡ kind_goto → false ≡ runs_off_end e k
+  unfolding runs_off_end
   off_goto p = rw (eq-eqb (kind_at e k) kind_goto p)
 
-  pub off_end : kind_at e k ≡ kind_end → false ≡ runs_off e k
-  unfolding runs_off
+  pub off_end : kind_at e k ≡ kind_end → false ≡ runs_off_end e k
+  unfolding runs_off_end
   off_end p = rw p
 
-  pub off_other : (x : ℕ) → kind_at e k ≢ kind_goto → kind_at e k ≢ kind_end → x ≡ next e k → leb (length e) x ≡ runs_off e k
-  unfolding runs_off
+  pub off_other : (x : ℕ) → kind_at e k ≢ kind_goto → kind_at e k ≢ kind_end → x ≡ next e k → leb (length e) x ≡ runs_off_end e k
+  unfolding runs_off_end
   off_other x p q r = rw (ne_eqb (kind_at e k) kind_goto p, ne_eqb (kind_at e k) kind_end q, r)
 
   -- ---- the refusal at k, reached with height h, case by case
@@ -115,10 +115,10 @@ module _ (e : List ℕ) (k : ℕ) where
         fault_many p = rw (ne_eqb h differing same, le-ltb h (needed e k) cells, lt-ltb 64 (height_after e k h) p)
 
         module _ (room : height_after e k h ≤ 64) where
-          pub fault_off : runs_off e k ≡ true → 11 ≡ fault3 e k h
+          pub fault_off : runs_off_end e k ≡ true → 11 ≡ fault3 e k h
           unfolding fault3
           fault_off p = rw (ne_eqb h differing same, le-ltb h (needed e k) cells, le-ltb 64 (height_after e k h) room, p)
 
-          pub fault_none : runs_off e k ≡ false → 0 ≡ fault3 e k h
+          pub fault_none : runs_off_end e k ≡ false → 0 ≡ fault3 e k h
           unfolding fault3
           fault_none p = rw (ne_eqb h differing same, le-ltb h (needed e k) cells, le-ltb 64 (height_after e k h) room, p)

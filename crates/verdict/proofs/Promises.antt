@@ -9,7 +9,7 @@ use Prim.Native.Nat.{ℕ, ◌≤◌, ◌<◌}
 use native.Mathlib.Omega.{arith}
 use lib.ListN.{length}
 use Rattle.refusals.specs.declared.Refusal.{Refusal}
-use Rattle.refusals.specs.Numbers.{heights_differ, runs_off_lem}
+use Rattle.refusals.specs.Numbers.{heights_differ, runs_off}
 use Rattle.refusals.specs.Refusal.{refusal}
 use Rattle.isa.specs.Classes.{kind_unsupported}
 use Rattle.isa.specs.Decode.{kind_at, next, height_after}
@@ -72,7 +72,7 @@ module _ (e : List ℕ) where
   refused_means p = meaning.late_broken e (verdict_refused.0 p)
 
   -- The number of a refusal is one of 1 to 11;
-  pub refused_number : {x : Refusal} → verdict e ≡ refused x → (1 ≤ x.number) × (x.number ≤ runs_off_lem)
+  pub refused_number : {x : Refusal} → verdict e ≡ refused x → (1 ≤ x.number) × (x.number ≤ runs_off)
   refused_number p = meaning.justified_number e (verdict_refused.0 p)
 
   -- it has that and an offset, and nothing ran.

@@ -4,7 +4,7 @@
 use Rattle.std.specs.Prelude.{true, ◌≢◌, ◌⊎◌, List, [], ◌∷◌, ◌≡◌, ℕ, ◌+◌, ◌-◌, ◌≤◌, ◌<◌, length}
 use Rattle.sizes.specs.Sizes.{expression_most, stack_cells, variable_count}
 use Rattle.refusals.specs.declared.Refusal.{Refusal}
-use Rattle.refusals.specs.Numbers.{expression_size, heights_differ, cells_too_few, cells_too_many, runs_off_lem}
+use Rattle.refusals.specs.Numbers.{expression_size, heights_differ, cells_too_few, cells_too_many, runs_off}
 use Rattle.refusals.specs.Refusal.{refusal}
 use Rattle.isa.specs.Classes.{kind_unsupported, kind_ext, kind_variable, kind_end}
 use Rattle.isa.specs.Decode.{kind_at, operand_bytes, operand, needed, left, height_after}
@@ -104,7 +104,7 @@ pub data Shows (e : List ℕ) (k r : ℕ) (lists : List (List ℕ)) : Type 0 whe
   cells_lack : {w : List ℕ} {u : ℕ} → r ≡ cells_too_few → lists ≡ w ∷ [] → Walk e 0 0 w k u → u < needed e k → Shows e k r lists
   cells_exceed : {w : List ℕ} {u : ℕ} → r ≡ cells_too_many → lists ≡ w ∷ [] → Walk e 0 0 w k u → needed e k ≤ u → stack_cells < height_after e k u
       → Shows e k r lists
-  walk_leaves : {w : List ℕ} {u m : ℕ} → r ≡ runs_off_lem → lists ≡ w ∷ []
+  walk_leaves : {w : List ℕ} {u m : ℕ} → r ≡ runs_off → lists ≡ w ∷ []
       → Walk e 0 0 w k u → needed e k ≤ u → height_after e k u ≤ stack_cells → After e k m → m ≡ length e → Shows e k r lists
 
 -- some lists show it

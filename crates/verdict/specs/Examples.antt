@@ -8,7 +8,7 @@ use Rattle.isa.specs.Starts.{starts_at_most, starts_from, is_start}
 use Rattle.verdict.specs.Fault.{first}
 use Rattle.verdict.specs.Pass1.{fault1}
 use Rattle.verdict.specs.Pass2.{fault2}
-use Rattle.verdict.specs.Pass3.{arrive, raise, at_target, at_next, runs_off, fault3, longer, heights_along, heights0, distances0, pass3}
+use Rattle.verdict.specs.Pass3.{arrive, raise, at_target, at_next, runs_off_end, fault3, longer, heights_along, heights0, distances0, pass3}
 use Rattle.verdict.specs.Verdict.{Verdict, accepted, refused, after1, after2, after3, verdict}
 
 abbrev same : Verdict → Verdict → Bool
@@ -25,5 +25,5 @@ chain (suc n) i = 0x22 ∷ 0x01 ∷ 0x20 ∷ (i + 5) / 256 ∷ (i + 5) % 256 ∷
 
 -- the definition computes in time linear in the bytes
 pub many_walks : T (same (verdict (chain 60 0)) (accepted 121 1 121))
-unfolding verdict after1 after2 after3 pass3 heights0 distances0 heights_along longer fault3 runs_off at_next at_target raise arrive fault2 fault1 first is_start starts_from starts_at_most height_after left needed picked operand class_of opcodes big_endian
+unfolding verdict after1 after2 after3 pass3 heights0 distances0 heights_along longer fault3 runs_off_end at_next at_target raise arrive fault2 fault1 first is_start starts_from starts_at_most height_after left needed picked operand class_of opcodes big_endian
 many_walks = tt
