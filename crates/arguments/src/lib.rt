@@ -2,59 +2,80 @@
 // --status, which asks for the status on descriptor 3, and the first --, behind which no word is an option.
 #![tactic(auto)]
 
+ghost use Rattle.std.specs.Prelude.{IfSome};
 ghost use Rattle.io.specs.Counts.{IsPrefixLen};
 
+use std::env::FillError;
 use std::num::wrapping_add_usize;
+use std::rt::Env;
+
+// How many words the whole command line has, the name of the program among them.
+fn count_all(rt: &impl Env) -> usize {
+    for place in 0..usize::MAX {
+        if let Err(FillError::NotPresent) = rt.arg(place, &mut []) {
+            return place;
+        }
+    }
+    usize::MAX
+}
+
+// Puts the word at a place of the whole command line at the start of `word`, and answers its length; nothing where there
+// is none, and where it is longer than `word`.
+fn word_at(rt: &impl Env, place: usize, word: &mut [u8]) -> Option<usize>
+    ensures { IfSome result (λ n. IsPrefixLen n word.new) }
+{
+    rt.arg(place, word).ok()
+}
 
 // Whether the word at a place of the whole command line is this one, of at most 8 characters.
-fn is_at(place: usize, expected: &[u8]) -> bool {
+fn is_at(rt: &impl Env, place: usize, expected: &[u8]) -> bool {
     let mut word = [0u8; 8];
-    let n = os::arg(place, &mut word);
-    check::same(&word[..n], expected)
+    match word_at(rt, place, &mut word) {
+        Some(n) => check::same(&word[..n], expected),
+        None => false,
+    }
 }
 
 // Whether the status is asked for on descriptor 3.
-pub fn asks_status() -> bool {
-    is_at(1, b"--status")
+pub fn asks_status(rt: &impl Env) -> bool {
+    is_at(rt, 1, b"--status")
 }
 
-fn is_separator(place: usize) -> bool {
-    is_at(place, b"--")
+fn is_separator(rt: &impl Env, place: usize) -> bool {
+    is_at(rt, place, b"--")
 }
 
 // The place of the first --; where there is none, the count of all words.
-fn separator() -> usize {
-    let count = os::arg_count();
-    let mut place = 1;
-    while place < count {
-        if is_separator(place) {
+fn separator(rt: &impl Env) -> usize {
+    let count = count_all(rt);
+    for place in 1..count {
+        if is_separator(rt, place) {
             return place;
         }
-        place += 1;
     }
     count
 }
 
 // The place of the word number i, were there no --.
-fn place_of(i: usize) -> usize {
-    if asks_status() {
+fn place_of(rt: &impl Env, i: usize) -> usize {
+    if asks_status(rt) {
         return wrapping_add_usize(i, 1);
     }
     i
 }
 
 // Whether the word number i stands behind --, so that it is no option.
-pub fn is_operand(i: usize) -> bool {
-    separator() <= place_of(i)
+pub fn is_operand(rt: &impl Env, i: usize) -> bool {
+    separator(rt) <= place_of(rt, i)
 }
 
 // The number of the last word, and one more.
-pub fn count() -> usize {
-    let mut count = os::arg_count();
-    if separator() < count {
+pub fn count(rt: &impl Env) -> usize {
+    let mut count = count_all(rt);
+    if separator(rt) < count {
         count -= 1;
     }
-    if asks_status() {
+    if asks_status(rt) {
         if 0 < count {
             count -= 1;
         }
@@ -62,14 +83,22 @@ pub fn count() -> usize {
     count
 }
 
-// Puts the word number i at the start of `word` and answers its length, as os::arg does: os::errno() is 0 where the
-// whole word is there.
-pub fn get(i: usize, word: &mut [u8]) -> usize
-    ensures { IsPrefixLen result word.new }
+// Puts the whole word number i at the start of `word` and answers its length; nothing where there is none, and where it is
+// longer than `word`.
+pub fn whole(rt: &impl Env, i: usize, word: &mut [u8]) -> Option<usize>
+    ensures { IfSome result (λ n. IsPrefixLen n word.new) }
 {
-    let mut place = place_of(i);
-    if is_operand(i) {
+    let mut place = place_of(rt, i);
+    if is_operand(rt, i) {
         place = wrapping_add_usize(place, 1);
     }
-    os::arg(place, word)
+    word_at(rt, place, word)
+}
+
+// Puts the word number i at the start of `word` and answers its length: 0 where there is none, and where it is longer than
+// `word`.
+pub fn get(rt: &impl Env, i: usize, word: &mut [u8]) -> usize
+    ensures { IsPrefixLen result word.new }
+{
+    whole(rt, i, word).unwrap_or(0)
 }
