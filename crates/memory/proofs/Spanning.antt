@@ -1,5 +1,5 @@
 -- Refusals 12 and 13: the case laws of `spans_refusal`, and what its answer says.
-use Rattle.std.proofs.Common.{◌≡◌, ℕ, ◌+◌, ◌^◌, ◌<◌, ◌≤◌, min, max, Bool, true, false, ◌⊎◌, ◌↔◌, List, [], ◌∷◌, length, sym, refl, inl, inr, ⊎_elim, arith, le-ltb, lt-ltb}
+use Rattle.std.proofs.Common.{◌≡◌, ℕ, ◌^◌, ◌<◌, ◌≤◌, min, max, Bool, true, false, ◌⊎◌, ◌↔◌, [], ◌∷◌, sym, refl, inl, inr, ⊎_elim, arith, le-ltb, lt-ltb}
 use Rattle.refusals.specs.Tried.{tried, NoneHolds}
 use Rattle.logic.proofs.Promises.{cases}
 use Rattle.refusals.proofs.Promises.{none_holds, tried_most}

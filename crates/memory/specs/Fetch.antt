@@ -1,6 +1,6 @@
 -- Reading target memory: document 01, "Meanings the manual leaves open", and refusal 19. A range is a number k of bytes
 -- at an address a.
-use Rattle.std.specs.Prelude.{◌≡◌, ℕ, ◌+◌, ◌-◌, ◌<◌, Bool, cond, not, ◌&&◌, ◌||◌, ◌⊎◌, List, [], ◌∷◌, ◌++◌, length, take, drop, ◌==◌, nat_le, nat_lt, slice_index}
+use Rattle.std.specs.Prelude.{◌≡◌, ℕ, ◌+◌, ◌-◌, ◌<◌, Bool, cond, not, ◌&&◌, ◌||◌, ◌⊎◌, List, [], ◌∷◌, ◌++◌, take, drop, ◌==◌, nat_le, nat_lt, slice_index}
 use Rattle.refusals.specs.Numbers.{range_not_readable}
 use Rattle.refusals.specs.Tried.{tried}
 use Rattle.memory.specs.Spans.{Span, Target, span_end, InSpan, span_tests}

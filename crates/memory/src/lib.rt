@@ -77,7 +77,7 @@ pub fn spans_refusal(image_first: u64, image: &[u8], work_first: u64, work: &[u8
 // ---- what is read
 
 // The span that holds an address, with the index of its byte there.
-#[derive(Drop)]
+#[derive(Clone, Copy)]
 pub enum Held {
     InImage(u64),
     InWork(u64),
@@ -163,7 +163,7 @@ pub fn fetch<'a>(
 }
 
 // How a search for the first zero byte went.
-#[derive(Drop)]
+#[derive(Clone, Copy)]
 pub enum Search {
     Found(usize), // a zero: so many bytes up to and with it
     Reached(usize), // the size, and no zero
