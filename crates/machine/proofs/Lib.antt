@@ -8,3 +8,4 @@ pub mod Ending
 pub mod Made
 pub mod Recorded
 pub mod WellFormed
+pub mod Examples

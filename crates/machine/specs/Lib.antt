@@ -8,4 +8,3 @@ pub mod Machine
 pub mod Run
 pub mod Standing
 pub mod Recorded
-pub mod Examples
