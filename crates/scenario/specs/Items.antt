@@ -1,6 +1,6 @@
 -- What a line of a scenario says: nothing, a thing that is set, loaded or saved, or an expression that is run. Blanks
 -- stand between its words.
-use Rattle.std.specs.Prelude.{ℕ, suc, ◌^◌, ◌+◌, ◌-◌, Bool, true, false, cond, List, [], ◌∷◌, leb, eqb, length, take, drop, get_or}
+use Rattle.std.specs.Prelude.{ℕ, suc, ◌+◌, ◌-◌, Bool, true, false, cond, List, [], ◌∷◌, leb, eqb, length, take, drop, get_or}
 use Prim.Native.String.{String}
 use Rattle.sizes.specs.Sizes.{variable_count, registers_most, buffer_most, tracepoint_most}
 use Rattle.hexadecimal.specs.Hex.{is_blank}
