@@ -1,7 +1,7 @@
 -- The contract, where it is known what the instruction does.
 use mathlib.Core.List.{List, [], ◌++◌}
 use mathlib.Core.Path.{◌≡◌, sym, ◌∙◌}
-use Prim.Native.Nat.{ℕ, ◌+◌, ◌≤◌, ◌<◌}
+use Prim.Native.Nat.{ℕ, ◌+◌, ◌<◌}
 use native.Mathlib.Nat.{add-zero}
 use native.Mathlib.Omega.{arith}
 use lib.ListN.{length, get_or, drop}
@@ -12,7 +12,7 @@ use Rattle.isa.specs.Joining.Held.{held}
 use Rattle.frames.specs.Record.{encode_all}
 use Rattle.machine.specs.Meaning.{Done, leaves, faults}
 use Rattle.operations.specs.Joining.Here.{on_top, Here}
-use Rattle.operations.specs.Joining.Did.{Did, DidCells}
+use Rattle.operations.specs.Joining.Did.{DidCells}
 use Rattle.operations.specs.declared.Next.{Next}
 use Rattle.operations.proofs.Placing.{offset_by, offset_here, stack_here}
 

@@ -18,7 +18,7 @@ use isa::{Stack, opcode};
 
 // What an instruction leaves: the next offset, the height, the end of what is written, and 0, or 1 at an end, or a
 // refusal's number.
-#[derive(Drop)]
+#[derive(Clone, Copy)]
 pub struct Next {
     pub at: usize,
     pub height: usize,
