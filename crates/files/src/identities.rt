@@ -1,31 +1,38 @@
 // Which file a name means.
 use crate::is_standard;
 use crate::status::status_of;
-use libc::STDIN_FILENO;
+use std::io::IsTerminal;
+use std::os::unix::fs::MetadataExt;
 
 // A file, by its device and its number there. Where it is not known, as of a file that is not there, it is like no other.
-#[derive(Drop)]
+#[derive(Clone, Copy)]
 pub struct FileIdentity {
     pub device: u64,
     pub inode: u64,
     pub is_known: bool,
 }
 
-fn identity_at(path: &[u8]) -> FileIdentity {
-    let status = status_of(path);
-    FileIdentity {
-        device: status.st_dev,
-        inode: status.st_ino,
-        is_known: status.st_mode != 0,
+fn identity_at(rt: &HostRuntime, path: &[u8]) -> FileIdentity {
+    match status_of(rt, path) {
+        Some(status) => FileIdentity {
+            device: status.dev(),
+            inode: status.ino(),
+            is_known: true,
+        },
+        None => FileIdentity {
+            device: 0,
+            inode: 0,
+            is_known: false,
+        },
     }
 }
 
 // The file that is read or written under this name.
-pub fn identity(name: &[u8]) -> FileIdentity {
+pub fn identity(rt: &HostRuntime, name: &[u8]) -> FileIdentity {
     if is_standard(name) {
-        return identity_at(b"/dev/stdin");
+        return identity_at(rt, b"/dev/stdin");
     }
-    identity_at(name)
+    identity_at(rt, name)
 }
 
 pub fn is_same_file(a: FileIdentity, b: FileIdentity) -> bool {
@@ -41,29 +48,29 @@ pub fn is_same_file(a: FileIdentity, b: FileIdentity) -> bool {
     a.inode == b.inode
 }
 
-// Whether this is standard input, and the system does not tell which file that is, as where there is no /proc. What has
-// no place, as a pipe, is no file that could be lost.
-fn may_be_any(name: &[u8], found: FileIdentity) -> bool {
+// Whether this is standard input, and the system does not tell which file that is, as where there is no /proc. What is
+// typed at a terminal is no file that could be lost.
+fn may_be_any(rt: &HostRuntime, name: &[u8], found: FileIdentity) -> bool {
     if found.is_known {
         return false;
     }
     if !is_standard(name) {
         return false;
     }
-    0 <= libc::lseek(STDIN_FILENO, 0, libc::SEEK_CUR)
+    !rt.stdin().is_terminal()
 }
 
 // Whether two names mean one file. Where that cannot be told it is so, that no file is lost that is read.
-pub fn is_same(a: &[u8], b: &[u8]) -> bool {
+pub fn is_same(rt: &HostRuntime, a: &[u8], b: &[u8]) -> bool {
     if check::same(a, b) {
         return true;
     }
-    let first = identity(a);
-    let second = identity(b);
-    if may_be_any(a, first) {
+    let first = identity(rt, a);
+    let second = identity(rt, b);
+    if may_be_any(rt, a, first) {
         return second.is_known;
     }
-    if may_be_any(b, second) {
+    if may_be_any(rt, b, second) {
         return first.is_known;
     }
     is_same_file(first, second)

@@ -8,8 +8,11 @@ mod writing;
 ghost use Rattle.std.specs.Prelude.{◌≡◌, ℕ, ◌≤◌, length};
 
 pub use identities::{FileIdentity, identity, is_same, is_same_file};
-use libc::STDIN_FILENO;
-pub use writing::{Draft, abandon, begin, finish, save};
+use status::text_of;
+use std::fs::File;
+use std::io::{Read, Stdin};
+use system_errors::number_of;
+pub use writing::{Draft, Target, abandon, begin, finish, save};
 
 // A file's bytes, so many; or it cannot be opened, or read, by the number of the system's error; or it has more bytes
 // than there is room for.
@@ -21,10 +24,29 @@ pub enum Loaded {
     TooLong,
 }
 
+// What is read: standard input, or a file that is open.
+#[derive(Drop)]
+pub enum Input {
+    Standard(Stdin),
+    Opened(File),
+}
+
+impl Read for Input {
+    fn read(&mut self, buf: &mut [u8]) -> std::io::Result<usize> {
+        match self {
+            Input::Standard(stdin) => stdin.read(buf),
+            Input::Opened(file) => file.read(buf),
+        }
+    }
+}
+
 // Whether the file goes on: one byte more can be read.
-fn goes_on(fd: i32) -> bool {
+fn goes_on<R: Read>(reader: &mut R) -> bool {
     let mut more = [0u8; 1];
-    0 < libc::read(fd, &mut more)
+    match reader.read(&mut more) {
+        Ok(got) => 0 < got,
+        Err(_) => false,
+    }
 }
 
 // 1,048,576 zeros, for a text or the bytes of a span.
@@ -39,52 +61,50 @@ pub fn is_standard(name: &[u8]) -> bool {
     check::same(name, b"-")
 }
 
-// Opens a file for reading, and answers a descriptor; or -1, where os::errno() tells why.
-pub fn open(name: &[u8]) -> i32 {
+// Opens a file for reading; or answers the number of the system's error.
+pub fn open(rt: &HostRuntime, name: &[u8]) -> Result<Input, i32> {
     if is_standard(name) {
-        return STDIN_FILENO;
+        return Ok(Input::Standard(rt.stdin()));
     }
-    os::open_read(name)
+    match File::open(rt, text_of(name)?) {
+        Ok(file) => Ok(Input::Opened(file)),
+        Err(error) => Err(number_of(&error)),
+    }
 }
 
 // Closes what `open` opened; standard input stays open.
-pub fn close(fd: i32) {
-    if fd != STDIN_FILENO {
-        libc::close(fd);
-    }
+pub fn close(input: Input) {
+    drop(input);
 }
 
 // Puts what is left of an open file at the start of `bytes`.
-pub fn load_rest(fd: i32, bytes: &mut [u8]) -> Loaded
+pub fn load_rest<R: Read>(reader: &mut R, bytes: &mut [u8]) -> Loaded
     ensures { (n : ℕ) → result ≡ Loaded.Bytes n → n ≤ length bytes.new }
 {
     let mut n = 0;
     while n < bytes.len() {
-        let got = libc::read(fd, &mut bytes[n..]);
-        if got < 0 {
-            return Loaded::NotRead(os::errno());
+        match reader.read(&mut bytes[n..]) {
+            Ok(0) => return Loaded::Bytes(n),
+            Ok(more) => n += more,
+            Err(error) => return Loaded::NotRead(number_of(&error)),
         }
-        let more = io::count(got, &bytes[n..]);
-        if more == 0 {
-            return Loaded::Bytes(n);
-        }
-        n += more;
     }
-    if goes_on(fd) {
+    if goes_on(reader) {
         return Loaded::TooLong;
     }
     Loaded::Bytes(n)
 }
 
 // Puts the file's bytes at the start of `bytes`.
-pub fn load(name: &[u8], bytes: &mut [u8]) -> Loaded
+pub fn load(rt: &HostRuntime, name: &[u8], bytes: &mut [u8]) -> Loaded
     ensures { (n : ℕ) → result ≡ Loaded.Bytes n → n ≤ length bytes.new }
 {
-    let fd = open(name);
-    if fd < 0 {
-        return Loaded::NotOpened(os::errno());
+    match open(rt, name) {
+        Ok(mut input) => {
+            let loaded = load_rest(&mut input, bytes);
+            close(input);
+            loaded
+        }
+        Err(errno) => Loaded::NotOpened(errno),
     }
-    let loaded = load_rest(fd, bytes);
-    close(fd);
-    loaded
 }

@@ -1,51 +1,18 @@
 // What the system knows of the file of a name.
-ghost use Rattle.libc.specs.Io.{Ended};
+use std::fs;
+use std::fs::Metadata;
+use system_errors::EILSEQ;
 
-use libc::PATH_MAX;
-use libc::types::{stat, timespec};
-use text_buffer::append;
-
-fn blank() -> stat {
-    let time = timespec {
-        tv_sec: 0,
-        tv_nsec: 0,
-    };
-    let unused = [0i64; 3];
-    stat {
-        st_dev: 0,
-        st_ino: 0,
-        st_nlink: 0,
-        st_mode: 0,
-        st_uid: 0,
-        st_gid: 0,
-        __pad: 0,
-        st_rdev: 0,
-        st_size: 0,
-        st_blksize: 0,
-        st_blocks: 0,
-        st_atim: time,
-        st_mtim: time,
-        st_ctim: time,
-        __unused: unused,
+// A name as std takes it, which is UTF-8; or the number of the error of one that is not.
+pub fn text_of<'a>(name: &'a [u8]) -> Result<&'a str, i32> {
+    match std::str::from_utf8(name) {
+        Ok(text) => Ok(text),
+        Err(_) => Err(EILSEQ),
     }
 }
 
-// What C stores over `blank`. A file that is not there leaves it as it is: a mode of 0, which no file has.
-fn filled(path: &[u8; PATH_MAX], blank: stat) -> stat
-    requires { Ended path.now }
-{
-    let mut status = blank;
-    libc::stat(path, &mut status);
-    status
-}
-
-// What is known of the file that the name leads to, through symbolic links. No file is opened.
-pub fn status_of(name: &[u8]) -> stat {
-    if PATH_MAX <= name.len() {
-        return blank();
-    }
-    let mut path = io::buffer();
-    append(&mut path, 0, name);
-    path[4095] = 0;
-    filled(&path, blank())
+// What is known of the file that the name leads to, through symbolic links; nothing of a file that is not there. No file is
+// opened.
+pub fn status_of(rt: &HostRuntime, name: &[u8]) -> Option<Metadata> {
+    fs::metadata(rt, text_of(name).ok()?).ok()
 }
