@@ -19,9 +19,9 @@ use Rattle.frames.specs.declared.Tag.{Tag}
 use Rattle.frames.specs.Record.{Record, size, encode_all, Decoded, found, broken, decode}
 use Rattle.frames.specs.Division.{Division, records, broken_at, after, divide}
 use Rattle.frames.proofs.Promises.{is_fit, fit_lengths, found_fits, divide_nothing, divide_found, divide_broken}
-use Rattle.reader.specs.NextRecord.{AtPlace, record_there, refused_there, decoded_at, record_at, RecordsFrom, stops, goes}
+use Rattle.reader.specs.NextRecord.{record_there, refused_there, decoded_at, record_at, RecordsFrom, stops, goes}
 use Rattle.reader.specs.Located.{Located, frame, refused, located}
-use Rattle.reader.specs.Framed.{FrameRead, frame_read, refused_frame, framed_by, framed_at_of, framed}
+use Rattle.reader.specs.Framed.{frame_read, refused_frame, framed_by, framed_at_of, framed}
 use Rattle.reader.proofs.Locating.{located_inside}
 use Rattle.reader.proofs.Framing.{framed_located, framed_division}
 use Rattle.reader.proofs.Numbers.{located_number}
