@@ -8,28 +8,28 @@ ghost use Rattle.scenario_setting.specs.Settings.{registers_after, variable_set,
 use scenario::{ALLOWANCE, BUFFER, IMAGE, REGISTER, REGISTERS, TRACEPOINT, VARIABLE};
 
 // The first address of a span, and its length.
-#[derive(Drop)]
+#[derive(Clone, Copy)]
 pub struct SpanSetting {
     pub first: u64,
     pub len: usize,
 }
 
 // The size of the trace buffer, and how much of it is used.
-#[derive(Drop)]
+#[derive(Clone, Copy)]
 pub struct Buffer {
     pub size: usize,
     pub used: usize,
 }
 
 // The steps are of no account where the allowance is the default.
-#[derive(Drop)]
+#[derive(Clone, Copy)]
 pub struct Allowance {
     pub steps: u64,
     pub is_default: bool,
 }
 
 // As many registers are lent as `registers` says; `is_stopped` says that a wrong line has ended the scenario.
-#[derive(Drop)]
+#[derive(Clone, Copy)]
 pub struct Setting {
     pub registers: usize,
     pub image: SpanSetting,
