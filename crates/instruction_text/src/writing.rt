@@ -9,7 +9,7 @@ use phrases::numbers::append_signed;
 use text_buffer::{append, append_number};
 
 // A text of so many bytes was written; there is no instruction; or the buffer has no room for the text.
-#[derive(Drop)]
+#[derive(Clone, Copy)]
 pub enum TextAnswer {
     Text(usize),
     NoInstruction,
