@@ -62,29 +62,6 @@ pub notes_all : (m e : List ℕ) (a : Bool) → notes_from m e a (8 * length m -
 unfolding mask_notes
 notes_all m e a = let z : 8 * length m - 0 ≡ 8 * length m = omega arith in ap (λ (n : ℕ). notes_from m e a n 0) z
 
--- ---- a bit below 8 that is none of the first seven
-above : (j k : ℕ) → k ≤ j → (j ≡ k → ⊥) → suc k ≤ j
-above j k h f = omega arith
-
-least : (j : ℕ) → 0 ≤ j
-least j = omega arith
-
-highest : (j : ℕ) → 7 ≤ j → j < 8 → j ≡ 7
-highest j h k = omega arith
-
-pub last_bit : (j : ℕ) → j < 8
-    → ((((((Unit {0} × (j ≡ 0 → ⊥)) × (j ≡ 1 → ⊥)) × (j ≡ 2 → ⊥)) × (j ≡ 3 → ⊥)) × (j ≡ 4 → ⊥)) × (j ≡ 5 → ⊥)) × (j ≡ 6 → ⊥) → j ≡ 7
-last_bit j h o =
-    highest j
-    (above j 6
-    (above j 5
-    (above j 4
-    (above j 3 (above j 2 (above j 1 (above j 0 (least j) o.0.0.0.0.0.0.1) o.0.0.0.0.0.1) o.0.0.0.0.1) o.0.0.0.1)
-    o.0.0.1)
-    o.0.1)
-    o.1)
-    h
-
 -- ---- a mask of any length
 pub notes_short : (m e : List ℕ) (a : Bool) → length m < 8192 → mask_notes m e a ≡ register_notes m e a
 unfolding register_notes
