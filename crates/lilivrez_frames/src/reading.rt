@@ -10,13 +10,7 @@ use reader::{CountAnswer, RecordAnswer, RecordStep};
 // refusal, or 0 where the record was read. Stores the offset of the refusal, the tracepoint number, the record's kind
 // (1 memory, 2 variable), then the address, the length and the place of its bytes in the buffer, or the variable's
 // number and value.
-pub fn lilivrez_read(
-    buffer: &[u8],
-    used: usize,
-    frame: u64,
-    index: u64,
-    out: &mut [u64; 6],
-) -> u32
+pub fn lilivrez_read(buffer: &[u8], used: usize, frame: u64, index: u64, out: &mut [u64; 6]) -> u32
     ensures number { result ≡ read_number_of (reading buffer.now used frame index) }
     ensures values { out.new ≡ read_values (reading buffer.now used frame index) }
 {
@@ -60,12 +54,7 @@ pub fn lilivrez_count(buffer: &[u8], used: usize, frame: u64, out: &mut [u64; 5]
 // One step over the records that end at `end`: the record at `place`. Returns the number of the refusal, or 0. Stores
 // the offset of the refusal, the record's kind (1 memory, 2 variable), then the address, the length and the place of
 // its bytes in the buffer, or the variable's number and value, and the next place.
-pub fn lilivrez_next_record(
-    buffer: &[u8],
-    end: usize,
-    place: usize,
-    out: &mut [u64; 6],
-) -> u32
+pub fn lilivrez_next_record(buffer: &[u8], end: usize, place: usize, out: &mut [u64; 6]) -> u32
     ensures number { result ≡ step_number (next_record buffer.now end place) }
     ensures values { out.new ≡ step_values place (next_record buffer.now end place) }
 {
