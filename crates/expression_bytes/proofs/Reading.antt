@@ -1,16 +1,16 @@
 -- Laws of the reading of an expression's bytes, one for each way out of the functions of src/. Assumes nothing.
-use Prim.Native.Nat.{ℕ, ◌+◌, ◌-◌, ◌≤◌, ◌<◌}
+use Prim.Native.Nat.{ℕ, ◌+◌, ◌-◌, ◌≤◌}
 use native.Mathlib.Omega.{arith}
-use mathlib.Core.Bool.{Bool, true, false, cond, not}
+use mathlib.Core.Bool.{Bool, true, false, not}
 use mathlib.Core.List.{List}
-use mathlib.Core.Path.{◌≡◌, refl, sym, ap, subst, ◌∙◌}
+use mathlib.Core.Path.{◌≡◌, sym, ap, subst, ◌∙◌}
 use lib.Dec.{eqb}
 use lib.ListN.{length, take, drop, get_or, get_or-eq_default}
 use borrow.Author.Tests.{eq-eqb, ne_eqb}
 use Rattle.text_buffer.specs.Text.{bytes_of}
 use Rattle.hexadecimal.specs.Hex.{digit_of}
 use Rattle.hexadecimal.specs.declared.HexAnswer.{HexAnswer}
-use Rattle.line_words.specs.Words.{leading, Word, first_word, behind, same_bytes, IsAt}
+use Rattle.line_words.specs.Words.{leading, Word, first_word, same_bytes, IsAt}
 use Rattle.line_words.specs.Numbers.{is_digit, number_in}
 use Rattle.line_words.specs.declared.Place.{Place}
 use Rattle.line_words.specs.declared.numbers.Number.{Number}

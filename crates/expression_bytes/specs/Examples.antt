@@ -1,5 +1,5 @@
 -- The definitions at some texts. Assumes nothing.
-use Rattle.std.specs.Prelude.{true, false, [], ◌∷◌, map, ◌≡◌, refl}
+use Rattle.std.specs.Prelude.{[], ◌∷◌, map, ◌≡◌, refl}
 use Rattle.hexadecimal.specs.Hex.{is_blank, digit_of}
 use Rattle.text_buffer.specs.Text.{bytes_of}
 use Rattle.line_words.specs.Words.{is_in_word, first_word}

@@ -12,7 +12,7 @@ use line_words::{is_same, next_word};
 
 // What was read: from a column on, with what answer; positions in the answer are counted from that column. `fitting`: the
 // number of bytes is the length in front of them, where there is one.
-#[derive(Drop)]
+#[derive(Clone, Copy)]
 pub struct ExpressionRead {
     pub start: usize,
     pub answer: HexAnswer,
@@ -20,7 +20,7 @@ pub struct ExpressionRead {
 }
 
 // The length in front of the bytes, and how many characters it has with its comma: 0 where there is none.
-#[derive(Drop)]
+#[derive(Clone, Copy)]
 pub struct Front {
     pub value: u64,
     pub characters: usize,
