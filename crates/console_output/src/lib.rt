@@ -9,19 +9,35 @@ ghost use Rattle.io.specs.Counts.{IsPrefixLen};
 ghost use Rattle.console_output.specs.Options.{is_option};
 
 pub use failure::{print_failure, print_failure_at, print_write_failure};
-use libc::{STDERR_FILENO, STDOUT_FILENO};
+use std::cell::Cell;
+
+// The system, and whether standard error takes nothing any more.
+#[derive(Drop)]
+pub struct Console {
+    pub rt: HostRuntime,
+    is_silent: Cell<bool>,
+}
+
+impl Console {
+    pub fn new(rt: HostRuntime) -> Console {
+        Console {
+            rt,
+            is_silent: Cell::new(false),
+        }
+    }
+}
 
 // ---- the status
 const STATUS_FILENO: i32 = 3;
 
-fn tell(event: &[u8]) {
-    if arguments::asks_status() {
+fn tell(console: &Console, event: &[u8]) {
+    if arguments::asks_status(&console.rt) {
         io::write_all(STATUS_FILENO, event);
     }
 }
 
-fn tell_error() {
-    tell(b"2");
+fn tell_error(console: &Console) {
+    tell(console, b"2");
 }
 
 fn is_refused(text: &[u8]) -> bool {
@@ -32,40 +48,48 @@ fn is_refused(text: &[u8]) -> bool {
 }
 
 // ---- errors
-fn print_aside(text: &[u8]) {
-    io::write_all(STDERR_FILENO, text);
+fn print_aside(console: &Console, text: &[u8]) {
+    if !console.is_silent.get() {
+        let _ = console.rt.stderr().write_all(text);
+    }
+}
+
+fn print_aside_number(console: &Console, number: u64) {
+    let mut figures = [0u8; 20];
+    let n = io::decimal(number, &mut figures);
+    print_aside(console, &figures[..n]);
 }
 
 // error: WHY
-pub fn print_error(why: &[u8]) {
-    tell_error();
-    print_aside(b"error: ");
-    print_aside(why);
-    print_aside(b"\n");
+pub fn print_error(console: &Console, why: &[u8]) {
+    tell_error(console);
+    print_aside(console, b"error: ");
+    print_aside(console, why);
+    print_aside(console, b"\n");
 }
 
 // error: NAME: WHY
-pub fn print_error_of(name: &[u8], why: &[u8]) {
-    tell_error();
-    print_aside(b"error: ");
-    print_aside(name);
-    print_aside(b": ");
-    print_aside(why);
-    print_aside(b"\n");
+pub fn print_error_of(console: &Console, name: &[u8], why: &[u8]) {
+    tell_error(console);
+    print_aside(console, b"error: ");
+    print_aside(console, name);
+    print_aside(console, b": ");
+    print_aside(console, why);
+    print_aside(console, b"\n");
 }
 
-fn print_place(word: &[u8], number: u64) {
-    print_aside(word);
-    io::print_decimal(STDERR_FILENO, number);
+fn print_place(console: &Console, word: &[u8], number: u64) {
+    print_aside(console, word);
+    print_aside_number(console, number);
 }
 
 // The name of a file that is read: - is standard input.
-fn print_name(name: &[u8]) {
+fn print_name(console: &Console, name: &[u8]) {
     if check::same(name, b"-") {
-        print_aside(b"standard input");
+        print_aside(console, b"standard input");
         return;
     }
-    print_aside(name);
+    print_aside(console, name);
 }
 
 fn visible(c: u8) -> u8 {
@@ -94,78 +118,84 @@ fn show(word: &[u8], shown: &mut [u8]) -> usize
 }
 
 // : 'WORD', at most 40 characters of it; .. stands behind where there are more.
-fn print_quoted(word: &[u8]) {
+fn print_quoted(console: &Console, word: &[u8]) {
     let mut shown = [0u8; 40];
     let n = show(word, &mut shown);
-    print_aside(b": '");
-    print_aside(&shown[..n]);
-    print_aside(b"'");
+    print_aside(console, b": '");
+    print_aside(console, &shown[..n]);
+    print_aside(console, b"'");
     if n < word.len() {
-        print_aside(b"..");
+        print_aside(console, b"..");
     }
 }
 
 // error: NAME, line N, column M: 'WORD': without what follows, which the caller prints.
-fn print_start(name: &[u8], line: u64, column: u64, word: &[u8]) {
-    tell_error();
-    print_aside(b"error: ");
-    print_name(name);
+fn print_start(console: &Console, name: &[u8], line: u64, column: u64, word: &[u8]) {
+    tell_error(console);
+    print_aside(console, b"error: ");
+    print_name(console, name);
     if line != 0 {
-        print_place(b", line ", line);
+        print_place(console, b", line ", line);
     }
     if column != 0 {
-        print_place(b", column ", column);
+        print_place(console, b", column ", column);
     }
     if word.len() != 0 {
-        print_quoted(word);
+        print_quoted(console, word);
     }
-    print_aside(b": ");
+    print_aside(console, b": ");
 }
 
 // error: NAME, line N, column M: 'WORD': WHY. NAME is a file that is read, where - is standard input; WORD is what was
 // not understood. Line and column are counted from 1; where one is 0 it is left out, and so is an empty word.
-pub fn print_error_word(name: &[u8], line: u64, column: u64, word: &[u8], why: &[u8]) {
-    print_start(name, line, column, word);
-    print_aside(why);
-    print_aside(b"\n");
+pub fn print_error_word(
+    console: &Console,
+    name: &[u8],
+    line: u64,
+    column: u64,
+    word: &[u8],
+    why: &[u8],
+) {
+    print_start(console, name, line, column, word);
+    print_aside(console, why);
+    print_aside(console, b"\n");
 }
 
 // error: NAME, line N, column M: WHY
-pub fn print_error_at(name: &[u8], line: u64, column: u64, why: &[u8]) {
-    print_error_word(name, line, column, b"", why);
+pub fn print_error_at(console: &Console, name: &[u8], line: u64, column: u64, why: &[u8]) {
+    print_error_word(console, name, line, column, b"", why);
 }
 
 // ---- answers
-// Where standard output takes no more (a full disk), one error says so. A program cannot end here, so nothing is written
-// to standard error behind it: else every later line would bring the same error. Its number stays taken, so that no
-// file that is opened later gets it.
-pub fn print(text: &[u8]) {
-    if !io::write_all(STDOUT_FILENO, text) {
-        print_error(b"standard output cannot be written");
-        libc::close(STDERR_FILENO);
-        os::open_read(b"/dev/null");
+// Where standard output takes no more (a full disk), one error says so, and nothing is written to standard error behind
+// it: else every later line would bring the same error.
+pub fn print(console: &Console, text: &[u8]) {
+    if console.rt.write_all(text).is_err() {
+        print_error(console, b"standard output cannot be written");
+        console.is_silent.set(true);
     }
 }
 
 // An answer. One that begins with refused is told for the status.
-pub fn print_answer(text: &[u8]) {
-    print(text);
+pub fn print_answer(console: &Console, text: &[u8]) {
+    print(console, text);
     if is_refused(text) {
-        tell(b"1");
+        tell(console, b"1");
     }
 }
 
 // An answer on standard error, where standard output has a file.
-pub fn print_answer_aside(text: &[u8]) {
-    print_aside(text);
+pub fn print_answer_aside(console: &Console, text: &[u8]) {
+    print_aside(console, text);
     if is_refused(text) {
-        tell(b"1");
+        tell(console, b"1");
     }
 }
 
 // ---- options
 // Whether a word is an option, where there is none; then the error is printed.
-pub fn refuse_option(word: &[u8]) -> bool
+#[tactic(auto, unfolding(crate::specs::Options::is_option))]
+pub fn refuse_option(console: &Console, word: &[u8]) -> bool
     ensures { result ≡ is_option word.now }
 {
     if word.len() < 2 {
@@ -177,6 +207,10 @@ pub fn refuse_option(word: &[u8]) -> bool
     if word[1] != b'-' {
         return false;
     }
-    print_error_of(word, b"unknown option: lilivrez help lists what there is");
+    print_error_of(
+        console,
+        word,
+        b"unknown option: lilivrez help lists what there is",
+    );
     true
 }

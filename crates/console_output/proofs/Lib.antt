@@ -1,2 +1,0 @@
--- The work behind the contract of `refuse_option`.
-mod Options
