@@ -24,7 +24,7 @@ use operations::Next;
 const RECORD_MOST: u64 = sizes::RECORD_MOST as u64;
 
 // 0 or a refusal's number, and the end of what is written.
-#[derive(Drop)]
+#[derive(Clone, Copy)]
 struct Appended {
     stop: u8,
     put: usize,
