@@ -17,10 +17,16 @@ pub slice_bounds-record_size-end : goal.slice_bounds-record_size-end
 slice_bounds-record_size-end c = omega (arith, fit_lengths c.args.buffer.now c.args.end (sym c.is_unfit.ensures ∙ c.if-is_unfit.false))
 
 pub returns-then-size-eq0 : goal.returns-then-size-eq0
-returns-then-size-eq0 c = ap Refused c.refusal_at-then-size-eq0.ensures ∙ next_broken _ _ _ (sym c.is_unfit.ensures ∙ c.if-is_unfit.false) (omega arith) c.record_size-size.ensures (omega arith)
+returns-then-size-eq0 c =
+    ap Refused c.refusal_at-then-size-eq0.ensures ∙ next_broken _ _ _ (sym c.is_unfit.ensures ∙ c.if-is_unfit.false) (omega arith) c.record_size-size.ensures (omega arith)
 
 pub overflow_add-next : goal.overflow_add-next
-overflow_add-next c = record { fits = omega (arith, next_fits c.args.buffer.now c.args.end c.args.place (sym c.is_unfit.ensures ∙ c.if-is_unfit.false) (omega arith) c.record_size-size.ensures, fit_lengths c.args.buffer.now c.args.end (sym c.is_unfit.ensures ∙ c.if-is_unfit.false)) }
+overflow_add-next c =
+    let a = c.args in
+    let fit = sym c.is_unfit.ensures ∙ c.if-is_unfit.false in
+    record {
+      fits = omega (arith, next_fits a.buffer.now a.end a.place fit (omega arith) c.record_size-size.ensures, fit_lengths a.buffer.now a.end fit);
+    }
 
 pub slice_bounds-read_record-end : goal.slice_bounds-read_record-end
 slice_bounds-read_record-end c = omega (arith, fit_lengths c.args.buffer.now c.args.end (sym c.is_unfit.ensures ∙ c.if-is_unfit.false))
@@ -31,9 +37,11 @@ read_record-requires c = omega (arith, c.record_size-size.ensures)
 pub overflow_add-bytes : goal.overflow_add-bytes
 overflow_add-bytes c =
     let a = c.args in
-    let h = header_there a.buffer.now a.end a.place (sym c.is_unfit.ensures ∙ c.if-is_unfit.false) (omega arith)
-    c.record_size-size.ensures c.in-Memory.ensures refl in
-    record { fits = omega (arith, h, next_fits c.args.buffer.now c.args.end c.args.place (sym c.is_unfit.ensures ∙ c.if-is_unfit.false) (omega arith) c.record_size-size.ensures, fit_lengths c.args.buffer.now c.args.end (sym c.is_unfit.ensures ∙ c.if-is_unfit.false)) }
+    let fit = sym c.is_unfit.ensures ∙ c.if-is_unfit.false in
+    let h = header_there a.buffer.now a.end a.place fit (omega arith) c.record_size-size.ensures c.in-Memory.ensures refl in
+    record {
+      fits = omega (arith, h, next_fits a.buffer.now a.end a.place fit (omega arith) c.record_size-size.ensures, fit_lengths a.buffer.now a.end fit);
+    }
 
 pub returns-in-Memory : goal.returns-in-Memory
 returns-in-Memory c =

@@ -14,10 +14,16 @@ pub returns-then-found-bytes : goal.returns-then-found-bytes
 returns-then-found-bytes c = ap refused_read c.refusal_at-then-found-bytes.ensures ∙ none_read _ _ c.in-Whole.ensures c.if-found-bytes.true _ _
 
 pub slice_bounds-read_record-count : goal.slice_bounds-read_record-count
-slice_bounds-read_record-count c = omega (arith, (one_read c.args.bytes.now c.args.index c.in-Whole.ensures (is_there c.args.bytes.now c.args.index c.in-Whole.ensures c.if-found-bytes.false)).inside)
+slice_bounds-read_record-count c =
+    let l = c.args.bytes.now in
+    let w = c.in-Whole.ensures in
+    omega (arith, (one_read l c.args.index w (is_there l c.args.index w c.if-found-bytes.false)).inside)
 
 pub slice_bounds-read_record-start : goal.slice_bounds-read_record-start
-slice_bounds-read_record-start c = omega (arith, (one_read c.args.bytes.now c.args.index c.in-Whole.ensures (is_there c.args.bytes.now c.args.index c.in-Whole.ensures c.if-found-bytes.false)).inside)
+slice_bounds-read_record-start c =
+    let l = c.args.bytes.now in
+    let w = c.in-Whole.ensures in
+    omega (arith, (one_read l c.args.index w (is_there l c.args.index w c.if-found-bytes.false)).inside)
 
 pub read_record-requires : goal.read_record-requires
 read_record-requires c =
@@ -52,8 +58,12 @@ returns-in-BrokenAt c =
 
 pub returns-in-Memory : goal.returns-in-Memory
 returns-in-Memory c =
-    memory_read_lem _ _ c.in-Whole.ensures (is_there c.args.bytes.now c.args.index c.in-Whole.ensures c.if-found-bytes.false) (rw (part_lent c.args.bytes.now c.in-Whole.found) at c.in-Memory.ensures) refl _ _
+    let l = c.args.bytes.now in
+    let w = c.in-Whole.ensures in
+    memory_read_lem _ _ w (is_there l c.args.index w c.if-found-bytes.false) (rw (part_lent l c.in-Whole.found) at c.in-Memory.ensures) refl _ _
 
 pub returns-in-Variable : goal.returns-in-Variable
 returns-in-Variable c =
-    variable_read_lem _ _ c.in-Whole.ensures (is_there c.args.bytes.now c.args.index c.in-Whole.ensures c.if-found-bytes.false) (rw (part_lent c.args.bytes.now c.in-Whole.found) at c.in-Variable.ensures) refl _ _
+    let l = c.args.bytes.now in
+    let w = c.in-Whole.ensures in
+    variable_read_lem _ _ w (is_there l c.args.index w c.if-found-bytes.false) (rw (part_lent l c.in-Whole.found) at c.in-Variable.ensures) refl _ _
