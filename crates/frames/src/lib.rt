@@ -20,7 +20,7 @@ pub fn is_unfit(buffer: &[u8], used: usize) -> bool
 }
 
 // How many bytes a writer has written; or none, for want of room.
-#[derive(Drop)]
+#[derive(Clone, Copy)]
 pub enum Put {
     Bytes(usize),
     Full,
@@ -81,20 +81,20 @@ pub fn append_variable(buffer: &mut [u8], used: usize, number: u32, value: u64) 
 }
 
 // A record. Memory: address, length. Variable: number, value.
-#[derive(Drop)]
+#[derive(Clone, Copy)]
 pub enum RecordFields {
     Memory(u64, usize),
     Variable(u64, u64),
 }
 
 // What a trailer says of its frame.
-#[derive(Drop)]
+#[derive(Clone, Copy)]
 pub struct Tag {
     pub tracepoint: u16,
 }
 
 // The trailer at the end of a frame: tag, length of the records.
-#[derive(Drop)]
+#[derive(Clone, Copy)]
 pub enum Ending {
     Closes(Tag, usize),
     NoTrailer,

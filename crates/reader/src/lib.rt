@@ -15,14 +15,14 @@ use frames::{Ending, RecordFields, Tag};
 use refusals::{Refusal, refusal_at};
 
 // A frame: tag, start, length of the records.
-#[derive(Drop)]
+#[derive(Clone, Copy)]
 pub enum FrameAnswer {
     Frame(Tag, usize, usize),
     Refused(Refusal),
 }
 
 // Memory: tag, address, length, place of the bytes in the buffer. Variable: tag, number, value.
-#[derive(Drop)]
+#[derive(Clone, Copy)]
 pub enum RecordAnswer {
     Memory(Tag, u64, usize, usize),
     Variable(Tag, u64, u64),
@@ -30,14 +30,14 @@ pub enum RecordAnswer {
 }
 
 // Tag, start, length of the records, their number.
-#[derive(Drop)]
+#[derive(Clone, Copy)]
 pub enum CountAnswer {
     Records(Tag, usize, usize, usize),
     Refused(Refusal),
 }
 
 // Memory: address, length, place of the bytes in the buffer, next place. Variable: number, value, next place.
-#[derive(Drop)]
+#[derive(Clone, Copy)]
 pub enum RecordStep {
     Memory(u64, usize, usize, usize),
     Variable(u64, u64, usize),
@@ -46,7 +46,7 @@ pub enum RecordStep {
 
 // The number of records, and the offset of the one asked for or the length of the bytes; or the offset of the first
 // that is broken.
-#[derive(Drop)]
+#[derive(Clone, Copy)]
 pub enum Split {
     Whole(usize, usize),
     BrokenAt(usize),
