@@ -2,7 +2,7 @@
 -- noted.
 use mathlib.Core.Bool.{Bool, true, false}
 use mathlib.Core.List.{List, [], ◌∷◌}
-use mathlib.Core.Path.{◌≡◌, refl, ap, sym, ◌∙◌}
+use mathlib.Core.Path.{◌≡◌, refl, ap, sym, ◌∙◌, subst}
 use mathlib.Core.Logic.{◌≢◌}
 use Prim.Native.Nat.{ℕ, zero, suc, ◌+◌, ◌≤◌, ◌<◌}
 use native.Mathlib.Nat.{not-suc-le-zero, le_of_suc-le-suc}
@@ -11,14 +11,12 @@ use native.Mathlib.Omega.{arith}
 use native.Mathlib.Decide.{ℕ_discrete}
 use lib.ListN.{get_or, length, take, drop, drop_of_length-le}
 use lib.Seq.{get_or-take, drop-cons, length-take-le}
-use borrow.Author.Tests.{le-leb, lt-leb}
 use Rattle.logic.specs.Tests.{member}
 use Rattle.refusals.specs.Refusal.{refusal}
-use Rattle.isa.specs.Decode.{operand, jumps}
+use Rattle.isa.specs.Decode.{jumps}
 use Rattle.isa.specs.Starts.{starts, is_start}
 use Rattle.verdict.proofs.Deciding.{f_other, first_nil, first_ok, first_fault}
 use Rattle.logic.proofs.Promises.{member_here, member_there}
-use Rattle.isa.proofs.Promises.{start_below}
 use Rattle.verdict.specs.Fault.{none, fault, first}
 use Rattle.verdict.specs.Pass2.{fault2, pass2}
 use Rattle.passes.specs.Joining.Tables.{Marked, jumps_among, jump_starts, JumpsNoted, aim_of}
@@ -51,10 +49,17 @@ module _ (e : List ℕ) where
   abbrev AmongAt : List ℕ → List ℕ → Type 0
   AmongAt ks js = (i : ℕ) → i < length js → (member (get_or js i 0) ks ≡ true) × (jumps e (get_or js i 0) ≡ true)
 
+  among_same : (ks : List ℕ) {js js' : List ℕ} → js ≡ js' → AmongAt ks js → AmongAt ks js'
+  among_same ks p r = subst (AmongAt ks) p r
+
   among_cons : (k : ℕ) (ks : List ℕ) (b : Bool) → jumps e k ≡ b → AmongAt ks (jumps_among e ks) → AmongAt (k ∷ ks) (jumps_among e (k ∷ ks))
   unfolding jumps_among
-  among_cons k ks false j r = rw j (λ i h. let q = r i h in (member_there (get_or (jumps_among e ks) i 0) k ks q.0, q.1))
-  among_cons k ks true j r = rw j (both)
+  among_cons k ks false j r =
+      let p : jumps_among e (k ∷ ks) ≡ jumps_among e ks = rw j refl in
+      among_same (k ∷ ks) (sym p) (λ i h. let q = r i h in (member_there (get_or (jumps_among e ks) i 0) k ks q.0, q.1))
+  among_cons k ks true j r =
+      let p : jumps_among e (k ∷ ks) ≡ (k ∷ jumps_among e ks) = rw j refl in
+      among_same (k ∷ ks) (sym p) both
     where
       both : AmongAt (k ∷ ks) (k ∷ jumps_among e ks)
       both zero h = (member_here k k ks refl, j)

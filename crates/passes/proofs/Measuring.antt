@@ -8,18 +8,17 @@ use native.Mathlib.Omega.{arith}
 use native.Mathlib.Decide.{ℕ_discrete}
 use lib.ListN.{get_or, length, replicate, length-replicate, get_or-replicate}
 use lib.Seq.{get_or-set_same, get_or-set_other}
-use lib.Dec.{leb}
-use borrow.Author.Tests.{eq-eqb, ne_eqb, le-leb, lt-leb, lt-ltb, le-ltb}
+use borrow.Author.Tests.{eq-eqb, ne_eqb, le-leb, lt-leb}
 use Rattle.logic.proofs.Promises.{cases}
 use Rattle.refusals.specs.Refusal.{refusal}
 use Rattle.isa.specs.Classes.{kind_goto, kind_if_goto, kind_end}
-use Rattle.isa.specs.Decode.{kind_at, next, operand, needed, height_after, jumps, continues}
+use Rattle.isa.specs.Decode.{kind_at, next, operand, height_after, jumps, continues}
 use Rattle.isa.specs.Starts.{starts_from}
 use Rattle.isa.specs.Walk.{one}
 use Rattle.isa.proofs.Promises.{known_low, from_end, from_next, start_in, start_next, start_zero}
 use Rattle.verdict.specs.Pass1.{Decodes}
 use Rattle.verdict.specs.Pass2.{Aims}
-use Rattle.verdict.specs.Pass3.{unreached, differing, joined, arrive, raise, at_target, at_next, pass_on, runs_off_end, fault3, stopped, heights_along, heights0, distances0, pass3}
+use Rattle.verdict.specs.Pass3.{unreached, joined, arrive, raise, at_target, at_next, pass_on, fault3, stopped, heights0, distances0, pass3}
 use Rattle.passes.specs.Joining.Tables.{measure_of, Unmeasured, Passing, arrived, farther, Incoming, Halting, Effected, Brings, ReachedStep, Turned, AgreeFrom, Measuring}
 use Rattle.passes.specs.declared.pass3.MeasureEnd.TheVariants.{Fine, Refused as MeasureEnd-as-Refused}
 use Rattle.passes.specs.declared.brought.Flow.{Flow}

@@ -1,5 +1,5 @@
 -- Pass 1 as the code runs it: the refusal at an offset case by case, and the loop with its two tables.
-use mathlib.Core.Bool.{Bool, true, false, cond, ◌||◌}
+use mathlib.Core.Bool.{Bool, true, false, ◌||◌}
 use mathlib.Core.List.{List, [], ◌∷◌, ◌++◌, append_assoc, append-nil}
 use mathlib.Core.Path.{◌≡◌, refl, ap, sym, ◌∙◌}
 use mathlib.Core.Logic.{◌≢◌}
@@ -11,16 +11,16 @@ use native.Mathlib.Decide.{ℕ_discrete}
 use lib.ListN.{get_or, length, set, take, replicate, length-set, length-replicate}
 use lib.Seq.{take-suc-set, get_or-set_same, get_or-set_other}
 use lib.Dec.{eqb}
-use borrow.Author.Tests.{eq-eqb, ne_eqb, lt-ltb, le-ltb, le-leb, lt-leb}
+use borrow.Author.Tests.{eq-eqb, ne_eqb, le-leb, lt-leb}
 use Rattle.logic.specs.Tests.{member}
 use Rattle.refusals.specs.Refusal.{refusal}
-use Rattle.isa.specs.Classes.{kind_unknown, kind_unsupported, kind_ext, kind_variable, kind_goto, kind_if_goto}
-use Rattle.isa.specs.Decode.{kind_at, next, operand, is_jump, jumps}
+use Rattle.isa.specs.Classes.{kind_goto, kind_if_goto}
+use Rattle.isa.specs.Decode.{kind_at, next, is_jump, jumps}
 use Rattle.isa.specs.Starts.{starts, starts_from, is_start}
 use Rattle.logic.proofs.Promises.{cases, no_true}
-use Rattle.isa.proofs.Promises.{no_operands, jump_operands, known_low, from_end, from_next}
+use Rattle.isa.proofs.Promises.{jump_operands, from_end, from_next}
 use Rattle.verdict.specs.Fault.{fault, first}
-use Rattle.verdict.specs.Pass1.{operand_wrong, fault1, pass1}
+use Rattle.verdict.specs.Pass1.{fault1, pass1}
 use Rattle.passes.specs.Joining.Tables.{jumps_among, jump_starts, Notes, Unmarked, Scanned, noted, counted}
 use Rattle.passes.specs.declared.pass1.ScanEnd.TheVariants.{Count}
 use Rattle.verdict.proofs.Deciding.{first_nil, first_ok, first_fault, clear_holds, clear_fits, replicate_at}

@@ -24,7 +24,7 @@ pub enum MeasureEnd {
 }
 
 // One start: its number, or 0; what flows on to the next start; the greatest height and the longest walk so far.
-#[derive(Drop)]
+#[derive(Clone, Copy)]
 pub struct Carry {
     pub fault: u8,
     pub height: usize,
