@@ -1,7 +1,7 @@
 // The command `explain` of the tool: a refusal's row of the manual.
 #![tactic(auto)]
 
-use console_output::{print, print_error, print_error_of};
+use console_output::{Console, print, print_error, print_error_of};
 use line_words::numbers::Number;
 use text_buffer::rows::append_row;
 use text_buffer::{append, append_number};
@@ -37,57 +37,75 @@ const ADVICE: [[u8; 75]; 26] = [
 ];
 
 // refusal N: WORDS
-fn print_words(number: u8) {
+fn print_words(console: &Console, number: u8) {
     let mut line = [0u8; 100];
     let a = append(&mut line, 0, b"refusal ");
     let b = append_number(&mut line, a, number as u64);
     let c = append(&mut line, b, b": ");
     let d = phrases::refused::append_refusal(&mut line, c, number);
     let n = append(&mut line, d, b"\n");
-    print(&line[..n]);
+    print(console, &line[..n]);
 }
 
-fn print_advice(row: &[u8; 75]) {
+fn print_advice(console: &Console, row: &[u8; 75]) {
     let mut line = [0u8; 104];
     let a = append(&mut line, 0, b"  what to do: ");
     let b = append_row(&mut line, a, row);
     let n = append(&mut line, b, b"\n");
-    print(&line[..n]);
+    print(console, &line[..n]);
 }
 
 // A refusal has a number from 1 to 25.
-fn explain(rows: &[[u8; 75]; 26], word: &[u8], number: u64) {
+fn explain(console: &Console, rows: &[[u8; 75]; 26], word: &[u8], number: u64) {
     if number == 0 {
-        print_error_of(word, b"no refusal has this number: they are 1 to 25");
+        print_error_of(
+            console,
+            word,
+            b"no refusal has this number: they are 1 to 25",
+        );
         return;
     }
     if 25 < number {
-        print_error_of(word, b"no refusal has this number: they are 1 to 25");
+        print_error_of(
+            console,
+            word,
+            b"no refusal has this number: they are 1 to 25",
+        );
         return;
     }
     let row = rows[number as usize];
-    print_words(number as u8);
-    print_advice(&row);
+    print_words(console, number as u8);
+    print_advice(console, &row);
 }
 
-fn explain_word(word: &[u8]) {
+fn explain_word(console: &Console, word: &[u8]) {
     match line_words::numbers::unsigned(word, 10) {
-        Number::Value(number) => explain(&ADVICE, word, number),
-        _ => print_error_of(word, b"not the number of a refusal: they are 1 to 25"),
+        Number::Value(number) => explain(console, &ADVICE, word, number),
+        _ => print_error_of(
+            console,
+            word,
+            b"not the number of a refusal: they are 1 to 25",
+        ),
     }
 }
 
-pub fn run() {
-    let count = arguments::count();
+pub fn run(console: &Console) {
+    let count = arguments::count(&console.rt);
     if count < 3 {
-        print_error(b"N is missing: write lilivrez explain N, with the number of a refusal");
+        print_error(
+            console,
+            b"N is missing: write lilivrez explain N, with the number of a refusal",
+        );
         return;
     }
     if 3 < count {
-        print_error(b"more than one word after explain: write lilivrez explain N");
+        print_error(
+            console,
+            b"more than one word after explain: write lilivrez explain N",
+        );
         return;
     }
     let mut word = io::buffer();
-    let n = arguments::get(2, &mut word);
-    explain_word(&word[..n]);
+    let n = arguments::get(&console.rt, 2, &mut word);
+    explain_word(console, &word[..n]);
 }
