@@ -1,14 +1,13 @@
 -- Laws of the parts of a text, for the proofs of the functions of `parts`. Assumes nothing.
-use Prim.Native.Nat.{ℕ, ◌+◌, ◌-◌, ◌≤◌, ◌<◌}
+use Prim.Native.Nat.{ℕ, ◌+◌, ◌-◌, ◌≤◌}
 use native.Mathlib.Omega.{arith}
-use mathlib.Core.Bool.{Bool, true, false, cond}
+use mathlib.Core.Bool.{Bool, true, false}
 use mathlib.Core.List.{List, [], ◌∷◌, ◌++◌, append-nil, append_assoc}
 use mathlib.Core.Path.{◌≡◌, refl, sym, ap, ◌∙◌}
 use lib.ListN.{length, take, drop, drop_of_length-le}
 use lib.Seq.{take-add, drop-drop}
 use Rattle.listing.specs.Listing.{joined_lines, lines_of, IsLine}
 use Rattle.listing.specs.Parts.{is_scope, before_scope, from_scope, scopes, IsScopeFrom, IsPart}
-use Rattle.listing.specs.declared.parts.Part.{Part}
 
 -- ---- two parts of a text that follow each other
 joined_parts : (t : List ℕ) (i j k : ℕ) → i ≤ j → j ≤ k → take (j - i) (drop i t) ++ take (k - j) (drop j t) ≡ take (k - i) (drop i t)

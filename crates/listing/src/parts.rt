@@ -5,7 +5,7 @@ ghost use Rattle.listing.specs.Parts.{is_scope, IsScopeFrom, IsPart};
 use crate::whole::{begins_with, line_end};
 
 // Where a part of a text is. The two are equal where there is none.
-#[derive(Drop)]
+#[derive(Clone, Copy)]
 pub struct Part {
     pub start: usize,
     pub end: usize,

@@ -10,7 +10,7 @@ use line_words::next_word;
 use line_words::numbers::{Number, is_digit, unsigned};
 
 // Why a line is refused.
-#[derive(Drop)]
+#[derive(Clone, Copy)]
 pub enum LineFault {
     WrongOffset,
     NoName,
@@ -23,7 +23,7 @@ pub enum LineFault {
 
 // What a line says: nothing, in an empty one; an opcode with its number of operand bytes and its
 // operand; or a fault, at a column counted from 0.
-#[derive(Drop)]
+#[derive(Clone, Copy)]
 pub enum ListingLine {
     Nothing,
     Instruction(u8, usize, u64),
@@ -31,7 +31,7 @@ pub enum ListingLine {
 }
 
 // So many bytes were written; or the buffer has no room for them; or a fault, at a column.
-#[derive(Drop)]
+#[derive(Clone, Copy)]
 pub enum LineRead {
     Bytes(usize),
     NoRoom,

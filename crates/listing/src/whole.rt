@@ -11,7 +11,7 @@ use line_words::is_same;
 
 // So many bytes were written; or the buffer has no room for those of a line; or a line has a fault, at
 // a column. Lines are counted from 1, columns from 0.
-#[derive(Drop)]
+#[derive(Clone, Copy)]
 pub enum ListingRead {
     Bytes(usize),
     NoRoom(usize),
