@@ -1,6 +1,6 @@
 -- Laws of the lines that show bytes, for the proofs of the functions of `dump`, and that the bytes are read back.
 -- Assumes nothing.
-use Rattle.std.proofs.Common.{◌≡◌, ℕ, zero, suc, ◌+◌, ◌-◌, ◌*◌, ◌/◌, ◌%◌, ◌^◌, ◌<◌, ◌≤◌, min, List, [], ◌∷◌, ◌++◌, length, get_or, take, drop, sym, refl, ap, ◌∙◌, append_assoc, add-one, arith, length-append, length-take, take_all, drop-cons, take-take, drop-drop, take_at, drop_at, le-ltb, lt-ltb, le-leb}
+use Rattle.std.proofs.Common.{◌≡◌, ℕ, zero, suc, ◌+◌, ◌-◌, ◌*◌, ◌%◌, ◌^◌, ◌<◌, ◌≤◌, min, List, [], ◌∷◌, ◌++◌, length, get_or, take, drop, sym, refl, ap, ◌∙◌, append_assoc, add-one, arith, length-append, length-take, take_all, drop-cons, take-take, drop-drop, take_at, drop_at, le-ltb, lt-ltb, le-leb}
 use lib.Seq.{take-nil}
 use borrow.Author.Tests.{lt-leb}
 use Rattle.encoding.specs.Ranges.{AllBytes}

@@ -1,9 +1,9 @@
 -- The lines of the record at a place. Assumes nothing.
-use Rattle.std.proofs.Common.{◌≡◌, ℕ, ◌+◌, ◌%◌, ◌^◌, ◌<◌, List, [], ◌∷◌, ◌++◌, length, take, drop, sym, refl, ap, ◌∙◌, add-zero, arith, length-append, lt-ltb}
+use Rattle.std.proofs.Common.{◌≡◌, ℕ, ◌+◌, ◌%◌, ◌^◌, ◌<◌, List, [], ◌∷◌, ◌++◌, length, take, drop, refl, ap, ◌∙◌, add-zero, arith, length-append, lt-ltb}
 use Rattle.refusals.specs.declared.Refusal.{Refusal}
 use Rattle.frames.specs.Record.{Record, memory, variable, size, encode, encode_all}
 use Rattle.frames.proofs.Promises.{length_encode}
-use Rattle.reader.specs.NextRecord.{record_there, record_at, step_over, step_at, next_record, RecordsFrom, stops, goes}
+use Rattle.reader.specs.NextRecord.{record_there, record_at, step_over, step_at, next_record, RecordsFrom, goes}
 use Rattle.reader.specs.declared.RecordStep.{RecordStep}
 use Rattle.frame_lines.specs.Dump.{dump_line, dump_text}
 use Rattle.frame_lines.specs.Lines.{record_text, line_of}
@@ -34,10 +34,10 @@ module _ (l : List ℕ) (end : ℕ) where
   walk_at : {place : ℕ} {r : Refusal} (before : List Record) (x : Record) (behind : List Record) → RecordsFrom l end place (before ++ (x ∷ behind)) r
       → record_at l end (place + length (encode_all before)) ≡ record_there x
   unfolding encode_all
-  walk_at {place} [] x behind (goes e w) = ap (record_at l end) (add-zero place) ∙ e
-  walk_at {place} (y ∷ before) x behind (goes e w) =
+  walk_at {place = place} [] x behind (goes e w) = ap (record_at l end) (add-zero place) ∙ e
+  walk_at {place = place} (y ∷ before) x behind (goes e w) =
       let n : place + length (encode y ++ encode_all before) ≡ place + size y + length (encode_all before) = omega (arith, length-append (encode y) (encode_all before), length_encode y) in
-      ap (record_at l end) n ∙ walk_at before x behind w
+      ap (record_at l end) n ∙ walk_at {place = place + size y} before x behind w
 
   pub walk_in : {place : ℕ} {rs : List Record} {r : Refusal} → RecordsFrom l end place rs r → (before : List Record) (x : Record) (behind : List Record) → rs ≡ before ++ (x ∷ behind)
       → record_at l end (place + length (encode_all before)) ≡ record_there x

@@ -1,0 +1,9 @@
+use Rattle.text_buffer.proofs.Promises.{one, more, appends_number}
+use Rattle.text_buffer.specs.Text.{bytes_of}
+use Rattle.text_buffer.specs.Decimal.{decimal}
+use Rattle.frame_lines.specs.Lines.{frame_refused_text, no_record_text}
+use Rattle.frame_lines.proofs.lines.append_no_record.Goals as goal
+
+pub returns : goal.returns
+unfolding no_record_text
+returns c = let a = c.args in record { count = c.append.ensures.count; text = (more (more (more (more (more (one (frame_refused_text a.refusal) c.append_refused-a.ensures.text) (bytes_of "\n  asked: frame ") c.append-b.ensures.text) (decimal a.number) (appends_number a.number c.append_number-c.ensures.text)) (bytes_of ", record ") c.append-d.ensures.text) (decimal a.index) (appends_number a.index c.append_number-e.ensures.text)) (bytes_of "\n") c.append.ensures.text).text }
