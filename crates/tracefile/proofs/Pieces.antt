@@ -1,5 +1,5 @@
 -- The pieces of a frame, one behind the other, are the frame. Assumes nothing.
-use Rattle.std.proofs.Common.{◌≡◌, ℕ, suc, ◌+◌, List, [], ◌∷◌, ◌++◌, length, take, drop, sym, refl, ap, ◌∙◌}
+use Rattle.std.proofs.Common.{◌≡◌, ℕ, ◌+◌, List, ◌++◌, length, sym, refl, ap, ◌∙◌}
 use Rattle.encoding.specs.LittleEndian.{little_bytes}
 use Rattle.encoding.specs.Ranges.{AllBytes}
 use Rattle.refusals.specs.declared.Refusal.{Refusal}
@@ -8,7 +8,6 @@ use Rattle.frames.specs.declared.Tag.{Tag}
 use Rattle.reader.specs.Located.{frame_back, located, walked}
 use Rattle.reader.specs.Framed.{frame_read, framed}
 use Rattle.reader.specs.NextRecord.{record_there, record_at, step_over, step_at, next_record, RecordsFrom, stops, goes}
-use Rattle.reader.specs.declared.RecordStep.{RecordStep}
 use Rattle.reader.proofs.Promises.{framed_located, framed_walked, there_bytes}
 use Rattle.tracefile.specs.Frames.{exported, exported_all, frame_bytes, opening_bytes, record_bytes, place_behind, records_from}
 
