@@ -2,30 +2,29 @@
 use mathlib.Core.Bool.{Bool, true, false}
 use mathlib.Core.List.{List, [], ◌∷◌}
 use mathlib.Core.Path.{◌≡◌, refl, ap, sym, ◌∙◌, subst}
-use mathlib.Core.Logic.{◌≢◌, ◌⊎◌, inl, inr, ⊎_elim}
+use mathlib.Core.Logic.{◌≢◌, inl, inr, ⊎_elim}
 use Prim.Native.Nat.{ℕ, zero, suc, ◌+◌, ◌-◌, ◌≤◌, ◌<◌, max}
 use native.Mathlib.Omega.{arith}
 use native.Mathlib.Decide.{ℕ_discrete}
 use lib.ListN.{get_or, length, set, replicate, length-set, length-replicate, get_or-replicate}
 use lib.Seq.{get_or-set_same, get_or-set_other}
 use borrow.Author.Tests.{eq-eqb, ne_eqb, lt-leb}
-use Rattle.isa.specs.Classes.{kind, setv, kind_variable, kind_goto, kind_if_goto, kind_end}
-use Rattle.isa.specs.Decode.{class_at, kind_at, next, operand, needed, left, height_after}
+use Rattle.isa.specs.Classes.{kind, setv, kind_variable, kind_goto, kind_if_goto}
+use Rattle.isa.specs.Decode.{class_at, kind_at, next, operand, needed, height_after}
 use Rattle.isa.specs.Starts.{starts, starts_from, is_start}
 use Rattle.isa.specs.Walk.{one}
 use Rattle.isa.proofs.Promises.{after_by, needed_row, left_row, end_cells, from_end, from_next, start_next}
-use Rattle.verdict.specs.Fault.{first}
-use Rattle.verdict.specs.Pass1.{fault1, pass1, Decodes}
-use Rattle.verdict.specs.Pass2.{fault2, pass2, Aims}
+use Rattle.verdict.specs.Pass1.{fault1, Decodes}
+use Rattle.verdict.specs.Pass2.{fault2, Aims}
 use Rattle.verdict.specs.Pass3.{unreached, joined, arrive, raise, runs_off_end, pass3}
-use Rattle.verdict.specs.Verdict.{accepted, verdict, SetsNothing}
+use Rattle.verdict.specs.Verdict.{accepted, verdict}
 use Rattle.verdict.proofs.Deciding.{first_nil, first_ok, clear_holds, f_plain, f_forward, off_goto, off_end, off_other, fault_none, joined_same, raises, if_kept, jumps_true, verdict_3}
-use Rattle.passes.specs.Joining.Tables.{Unmeasured, Incoming, Effected, Brings, ReachedStep, Measuring}
+use Rattle.passes.specs.Joining.Tables.{Unmeasured, Effected, Brings, ReachedStep, Measuring}
 use Rattle.passes.specs.declared.pass3.Carry.{Carry}
 use Rattle.passes.specs.declared.brought.Flow.{Flow}
 use Rattle.passes.proofs.Promises.{target_jump, brings_none, joined_reached, incoming_flow, incoming_both, stepped_on, stepped_goto, stepped_end, turned_step, unmeasured_new, measuring_turn, measuring_end, measure_fine}
 use Rattle.acceptor.specs.Joining.StraightCode.{stop_on, stop_doubt, stop_accepted, GoesOn, IsEnd, IsJump, IsIfGoto, IsGoto, SetsNothingBefore, Following, Straight}
-use Rattle.acceptor.specs.Joining.CodeWithJumps.{Brought, noted_one, tally, Pending, NotedStarts, Joins, JoinsOr, JumpsOn, Jumped, Stands, Branching, BranchingJoined, Concluded, Turns}
+use Rattle.acceptor.specs.Joining.CodeWithJumps.{Brought, noted_one, tally, Pending, NotedStarts, JoinsOr, JumpsOn, Jumped, Stands, Branching, BranchingJoined, Concluded, Turns}
 use Rattle.acceptor.specs.declared.effects.HeightEffect.{HeightEffect}
 use Rattle.acceptor.specs.declared.branching.JoinEnd.{JoinEnd}
 use Rattle.acceptor.specs.declared.branching.JumpEnd.{JumpEnd}

@@ -1,30 +1,26 @@
 -- The pass over straight code: from one start to the next, and where it stops.
 use mathlib.Core.Bool.{Bool, true, false}
-use mathlib.Core.List.{List, [], ◌∷◌}
+use mathlib.Core.List.{List, ◌∷◌}
 use mathlib.Core.Path.{◌≡◌, refl, ap, sym, ◌∙◌}
 use mathlib.Core.Logic.{◌≢◌, ◌⊎◌, ⊎_elim}
 use Prim.Native.Nat.{ℕ, suc, ◌+◌, ◌≤◌, ◌<◌, max}
 use native.Mathlib.Nat.{zero-add}
 use native.Mathlib.Omega.{arith}
-use lib.ListN.{get_or, length, replicate}
+use lib.ListN.{get_or, length}
 use borrow.Author.Tests.{lt-leb}
 use Rattle.logic.proofs.Promises.{no_true}
-use Rattle.isa.specs.Classes.{kind, setv, kind_variable, kind_goto, kind_end}
+use Rattle.isa.specs.Classes.{kind, setv, kind_goto, kind_end}
 use Rattle.isa.specs.Decode.{class_at, kind_at, next, height_after}
 use Rattle.isa.specs.Starts.{starts, starts_from, is_start}
-use Rattle.isa.specs.Walk.{one}
-use Rattle.isa.proofs.Promises.{needed_row, left_row, after_by, end_cells, from_end, from_next, start_in, start_zero, start_next, before_next}
-use Rattle.verdict.specs.Fault.{first}
-use Rattle.verdict.specs.Pass1.{fault1, Decodes}
-use Rattle.verdict.specs.Pass2.{fault2, Aims}
-use Rattle.verdict.specs.Pass3.{unreached, pass3}
-use Rattle.verdict.specs.Verdict.{accepted, verdict, SetsNothing}
-use Rattle.verdict.proofs.Deciding.{first_nil, first_ok, clear_holds, f_plain, f_other, off_other, off_end, fault_none, verdict_3}
-use Rattle.passes.specs.Joining.Tables.{Unmeasured, Effected, ReachedStep, Turned, measure_of, Measuring}
+use Rattle.isa.proofs.Promises.{from_next, start_in, start_zero, start_next, before_next}
+use Rattle.verdict.specs.Pass1.{fault1}
+use Rattle.verdict.specs.Pass2.{fault2}
+use Rattle.verdict.specs.Verdict.{SetsNothing}
+use Rattle.verdict.proofs.Deciding.{first_ok, f_other, off_other, fault_none}
+use Rattle.passes.specs.Joining.Tables.{Unmeasured, Effected, ReachedStep, Turned}
 use Rattle.passes.specs.declared.pass3.Carry.{Carry}
-use Rattle.passes.specs.declared.pass3.MeasureEnd.TheVariants.{Fine}
-use Rattle.passes.proofs.Promises.{brings_none, incoming_flow, stepped_on, stepped_end, turned_step, unmeasured_new, measuring_start, measuring_turn, measuring_end, measure_fine}
-use Rattle.acceptor.specs.Joining.StraightCode.{stop_on, stop_doubt, stop_end, stop_sets, stop_accepted, GoesOn, IsEnd, HasEffect, SetsNothingBefore, Following, Followed, Straight}
+use Rattle.passes.proofs.Promises.{brings_none, incoming_flow, stepped_on, turned_step, measuring_start, measuring_turn}
+use Rattle.acceptor.specs.Joining.StraightCode.{stop_on, stop_doubt, stop_sets, GoesOn, IsEnd, HasEffect, SetsNothingBefore, Following, Followed, Straight}
 use Rattle.acceptor.specs.declared.effects.HeightEffect.{HeightEffect}
 use Rattle.acceptor.specs.declared.Stop.{Stop}
 

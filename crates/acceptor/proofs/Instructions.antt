@@ -14,7 +14,6 @@ use Rattle.logic.proofs.Promises.{and_left, and_right}
 use Rattle.isa.specs.Classes.{opcodes, class_of, row, kind, setv, kind_ext, kind_variable, kind_plain, kind_pick, kind_goto, kind_if_goto, kind_end}
 use Rattle.isa.specs.Decode.{class_at, kind_at, next, operand, picked, needed, left}
 use Rattle.isa.proofs.Promises.{picked_pick, needed_row, left_row, needed_by, left_by, after_by}
-use Rattle.isa.specs.declared.Row.{Row}
 use Rattle.isa.specs.Joining.Rows.{IsRow}
 use Rattle.verdict.specs.Pass1.{fault1}
 use Rattle.verdict.proofs.Deciding.{f_plain, f_ext_some, f_variable_low}

@@ -45,7 +45,7 @@ pub struct Stop {
 // Where the pass over code with jumps stands: ON, DOUBT or ACCEPTED; the offset, the height and the distance that flow
 // in; the instructions before it; the greatest height; the longest walk to an end; how many targets were noted, and how
 // many of them were met as starts; whether a setv came.
-#[derive(Drop)]
+#[derive(Clone, Copy)]
 pub struct Progress {
     pub stop: u8,
     pub at: usize,

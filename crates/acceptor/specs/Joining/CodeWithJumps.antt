@@ -1,7 +1,7 @@
 -- The pass that accepts or is in doubt, over code with jumps: what it knows at a start.
 use Rattle.std.specs.Prelude.{true, false, cond, List, [], ◌∷◌, ◌≢◌, ◌⊎◌, ◌≡◌, ℕ, ◌+◌, ◌≤◌, ◌<◌, max, get_or, length, eqb}
 use Rattle.sizes.specs.Sizes.{expression_most, stack_cells}
-use Rattle.isa.specs.Decode.{next, operand, needed, height_after}
+use Rattle.isa.specs.Decode.{operand, needed, height_after}
 use Rattle.isa.specs.Starts.{starts, starts_from, is_start}
 use Rattle.verdict.specs.Fault.{first}
 use Rattle.verdict.specs.Pass1.{fault1, pass1, Decodes}
