@@ -16,4 +16,5 @@ returns-then-cell-eq0 c =
 
 pub returns : goal.returns
 returns c =
-    did_cells refl c.requires.lent.long c.requires refl refl (rw (ne_eqb _ 0 (λ z. c.if-cell-eq0.false (c.below-cell.ensures ∙ z))) c.operand_at-target.ensures.0) (taken_here c.requires c.height_of-after.ensures refl)
+    did_cells refl c.requires.lent.long c.requires refl refl (rw (ne_eqb _ 0 (λ z. c.if-cell-eq0.false (c.below-cell.ensures ∙ z))) c.operand_at-target.ensures.0)
+    (taken_here c.requires c.height_of-after.ensures refl)

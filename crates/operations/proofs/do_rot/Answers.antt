@@ -19,4 +19,5 @@ replace-after-requires c =
 pub returns : goal.returns
 returns c =
     let e = rw (needed_here c.requires c.needed_of-needed.ensures) at c.replace-first.ensures.1 in
-    did_cells refl c.replace-after.ensures.2 c.requires refl refl (next_here c.requires c.next_of-next.ensures) (cc (e, c.replace-second.ensures.1, c.below-a.ensures, c.below-b.ensures, c.below-c.ensures))
+    did_cells refl c.replace-after.ensures.2 c.requires refl refl (next_here c.requires c.next_of-next.ensures)
+    (cc (e, c.replace-second.ensures.1, c.below-a.ensures, c.below-b.ensures, c.below-c.ensures))
