@@ -65,7 +65,8 @@ module _ (b : List ℕ) (p : ℕ) (e : Record) (h : p ≤ length b) (g : encodab
       record { stop = rw t hs; put = rw (t, append-nil, ← f.count) hp; buffer = rw (t, append-nil) f.bytes; room = omega (arith, one_in q); above = rw t tt }
 
 -- ---- the instruction's answer
-module _ {rows : List (List ℕ)} {code a₀ : List ℕ} {c : Class} {op at h : ℕ} (p : Here rows code a₀ c op at h) {u : ℕ} {s b : List ℕ} (cells : List ℕ) {w : Appended} {r : Next} {a b' : List ℕ} where
+module _ {rows : List (List ℕ)} {code a₀ : List ℕ} {c : Class} {op at h : ℕ} (p : Here rows code a₀ c op at h) {u : ℕ} {s b : List ℕ} (cells : List ℕ)
+    {w : Appended} {r : Next} {a b' : List ℕ} where
   pub did_made : (m : Made) → DidMake b u m w b' → w.stop ≡ 0 → r.stop ≡ 0 → r.at ≡ offset_by c code at s
       → held a r.height ≡ cells ++ drop (get_or (row c) 1 0 + on_top c code at) s → r.put ≡ w.put → length a ≡ stack_cells → Did code at u s b (recording cells m) r a b'
   did_made (made rs) k z hs ha hh hp hl = record {

@@ -17,8 +17,10 @@ replace-after-requires c =
 
 pub returns-then-appended-eq0 : goal.returns-then-appended-eq0
 returns-then-appended-eq0 c =
-    did_made c.requires.here (get_or c.args.variables.now (operand c.args.code.now c.args.at) 0 ∷ []) _ (rw c.operand_at-number.ensures.0 at c.record_variable-appended.ensures) c.if-appended-eq0.true refl
-    (next_here c.requires.here c.next_of-next.ensures) (rw (c.operand_at-number.ensures.0, needed_here c.requires.here c.needed_of-needed.ensures) at c.replace-after.ensures.1) refl c.replace-after.ensures.2
+    let n = c.operand_at-number.ensures.0 in
+    let p = c.requires.here in
+    did_made p (get_or c.args.variables.now (operand c.args.code.now c.args.at) 0 ∷ []) _ (rw n at c.record_variable-appended.ensures) c.if-appended-eq0.true refl
+    (next_here p c.next_of-next.ensures) (rw (n, needed_here p c.needed_of-needed.ensures) at c.replace-after.ensures.1) refl c.replace-after.ensures.2
 
 pub returns : goal.returns
 returns c =

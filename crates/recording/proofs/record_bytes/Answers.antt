@@ -7,12 +7,12 @@ use Rattle.recording.proofs.record_bytes.Goals as goal
 
 pub overflow_add-end : goal.overflow_add-end
 overflow_add-end c =
-    omega (arith, one_in _ _ (memory c.args.address c.args.bytes.now) c.requires.room (le-leb _ _ c.requires.size) c.append_memory-written.ensures c.in-Bytes.is)
+    omega (arith, one_in _ _ (memory c.args.address c.args.bytes.now) (omega arith) (le-leb _ _ c.requires.size) c.append_memory-written.ensures c.in-Bytes.is)
 
 pub returns-in-Bytes : goal.returns-in-Bytes
 returns-in-Bytes c =
-    one_wrote _ _ (memory c.args.address c.args.bytes.now) c.requires.room (le-leb _ _ c.requires.size) c.append_memory-written.ensures c.in-Bytes.is refl refl
+    one_wrote _ _ (memory c.args.address c.args.bytes.now) (omega arith) (le-leb _ _ c.requires.size) c.append_memory-written.ensures c.in-Bytes.is refl refl
 
 pub returns-in-Full : goal.returns-in-Full
 returns-in-Full c =
-    one_full _ _ (memory c.args.address c.args.bytes.now) c.requires.room (le-leb _ _ c.requires.size) c.append_memory-written.ensures c.in-Full.is refl refl
+    one_full _ _ (memory c.args.address c.args.bytes.now) (omega arith) (le-leb _ _ c.requires.size) c.append_memory-written.ensures c.in-Full.is refl refl

@@ -30,7 +30,7 @@ record_bytes-requires-then-size-le-RECORD_MOST c =
 pub returns-then-size-le-RECORD_MOST : goal.returns-then-size-le-RECORD_MOST
 returns-then-size-le-RECORD_MOST c =
     made_as
-    (zero_reached _ _ _ _ c.if-size-eq0.false c.rest-rest.ensures c.find_zero-search.result c.search_limit-limit.ensures c.find_zero-search.ensures c.in-Reached.is (omega (arith, c.if-size-le-RECORD_MOST.true)))
+    (zero_reached _ _ _ _ c.if-size-eq0.false c.rest-rest.ensures c.find_zero-search.result c.search_limit-limit.ensures c.find_zero-search.ensures c.in-Reached.is (omega arith))
     c.record_bytes-then-size-le-RECORD_MOST.ensures
 
 pub returns-in-Found : goal.returns-in-Found
@@ -40,7 +40,7 @@ returns-in-Found c =
 pub returns-else-size-le-RECORD_MOST : goal.returns-else-size-le-RECORD_MOST
 returns-else-size-le-RECORD_MOST c =
     made_refused
-    (zero_long _ _ _ _ c.if-size-eq0.false c.rest-rest.ensures c.find_zero-search.result c.search_limit-limit.ensures c.find_zero-search.ensures c.in-Reached.is (omega (arith, c.if-size-le-RECORD_MOST.false)))
+    (zero_long _ _ _ _ c.if-size-eq0.false c.rest-rest.ensures c.find_zero-search.result c.search_limit-limit.ensures c.find_zero-search.ensures c.in-Reached.is (omega arith))
     (omega arith) c.requires.room refl refl
 
 pub returns-in-Ended : goal.returns-in-Ended

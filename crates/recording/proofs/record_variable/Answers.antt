@@ -6,12 +6,12 @@ use Rattle.recording.proofs.record_variable.Goals as goal
 
 pub overflow_add-end : goal.overflow_add-end
 overflow_add-end c =
-    omega (arith, one_in _ _ (variable c.args.number c.args.value) c.requires refl c.append_variable-written.ensures c.in-Bytes.is)
+    omega (arith, one_in _ _ (variable c.args.number c.args.value) (omega arith) refl c.append_variable-written.ensures c.in-Bytes.is)
 
 pub returns-in-Bytes : goal.returns-in-Bytes
 returns-in-Bytes c =
-    one_wrote _ _ (variable c.args.number c.args.value) c.requires refl c.append_variable-written.ensures c.in-Bytes.is refl refl
+    one_wrote _ _ (variable c.args.number c.args.value) (omega arith) refl c.append_variable-written.ensures c.in-Bytes.is refl refl
 
 pub returns-in-Full : goal.returns-in-Full
 returns-in-Full c =
-    one_full _ _ (variable c.args.number c.args.value) c.requires refl c.append_variable-written.ensures c.in-Full.is refl refl
+    one_full _ _ (variable c.args.number c.args.value) (omega arith) refl c.append_variable-written.ensures c.in-Full.is refl refl
