@@ -4,7 +4,7 @@
 use refusals::Refusal;
 
 // Accepted: instruction count, greatest height, longest walk.
-#[derive(Drop)]
+#[derive(Clone, Copy)]
 pub enum Verification {
     Accepted(usize, u8, usize),
     Refused(Refusal),
