@@ -20,7 +20,7 @@ use refusals::Refusal;
 use verdict::Verification;
 
 // What is on top of the stack at an end: no value, the top, or the top and the cell beneath.
-#[derive(Drop)]
+#[derive(Clone, Copy)]
 pub enum Value {
     Nothing,
     Top(u64),
@@ -28,7 +28,7 @@ pub enum Value {
 }
 
 // Completed: answer, steps, used length.
-#[derive(Drop)]
+#[derive(Clone, Copy)]
 pub enum Outcome {
     Completed(Value, u64, usize),
     Refused(Refusal),
