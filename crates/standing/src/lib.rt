@@ -14,7 +14,7 @@ use verdict::Verification;
 
 // At: the offset, and the height of the stack, whose cells the caller's array holds, the bottom first. Over: the run
 // has completed or was refused before so many steps were done.
-#[derive(Drop)]
+#[derive(Clone, Copy)]
 pub enum Stood {
     At(usize, usize),
     Over,
