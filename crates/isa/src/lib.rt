@@ -87,7 +87,7 @@ pub const IF_GOTO: u8 = 7;
 
 pub const END: u8 = 8;
 
-#[derive(Drop)]
+#[derive(Clone, Copy)]
 pub struct Row {
     pub operands: u8,
     pub needed: u8,
