@@ -1,5 +1,5 @@
 // Why a file could not be opened, read or written, in words, by the number of the system's error.
-use crate::{Console, print_aside, print_aside_number, print_start};
+use crate::{Console, leave, print_aside, print_aside_number, print_start};
 use system_errors::{
     EACCES, EFBIG, EILSEQ, EIO, EISDIR, ELOOP, ENAMETOOLONG, ENOENT, ENOSPC, ENOTDIR, EPERM, EPIPE,
     EROFS,
@@ -49,9 +49,13 @@ pub fn print_failure(console: &Console, name: &[u8], errno: i32) {
     print_failure_at(console, name, 0, 0, b"", errno);
 }
 
-// error: NAME: why, of a file that is written.
+// error: NAME: why, of a file that is written. Nothing is said where that is standard output and nobody reads it any more.
 pub fn print_write_failure(console: &Console, name: &[u8], errno: i32) {
     if check::same(name, b"-") {
+        if errno == EPIPE {
+            leave(console);
+            return;
+        }
         print_failure(console, b"standard output", errno);
         return;
     }

@@ -10,12 +10,14 @@ ghost use Rattle.console_output.specs.Options.{is_option};
 
 pub use failure::{print_failure, print_failure_at, print_write_failure};
 use std::cell::Cell;
+use std::io::ErrorKind;
 
-// The system, and whether standard error takes nothing any more.
+// The system; whether nothing more is to be printed on standard error; and whether nobody reads what is printed any more.
 #[derive(Drop)]
 pub struct Console {
     pub rt: HostRuntime,
     is_silent: Cell<bool>,
+    is_unread: Cell<bool>,
 }
 
 impl Console {
@@ -23,8 +25,20 @@ impl Console {
         Console {
             rt,
             is_silent: Cell::new(false),
+            is_unread: Cell::new(false),
         }
     }
+}
+
+// Whether nobody reads what is printed any more, so that the tool is to end.
+pub fn is_unread(console: &Console) -> bool {
+    console.is_unread.get()
+}
+
+// Nothing is printed any more.
+fn leave(console: &Console) {
+    console.is_silent.set(true);
+    console.is_unread.set(true);
 }
 
 // ---- the status
@@ -49,8 +63,13 @@ fn is_refused(text: &[u8]) -> bool {
 
 // ---- errors
 fn print_aside(console: &Console, text: &[u8]) {
-    if !console.is_silent.get() {
-        let _ = console.rt.stderr().write_all(text);
+    if console.is_silent.get() {
+        return;
+    }
+    if let Err(error) = console.rt.stderr().write_all(text) {
+        if error.kind() == ErrorKind::BrokenPipe {
+            leave(console);
+        }
     }
 }
 
@@ -168,9 +187,16 @@ pub fn print_error_at(console: &Console, name: &[u8], line: u64, column: u64, wh
 
 // ---- answers
 // Where standard output takes no more (a full disk), one error says so, and nothing is written to standard error behind
-// it: else every later line would bring the same error.
+// it: else every later line would bring the same error. Where nobody reads it any more, nothing is said.
 pub fn print(console: &Console, text: &[u8]) {
-    if console.rt.write_all(text).is_err() {
+    if console.is_unread.get() {
+        return;
+    }
+    if let Err(error) = console.rt.write_all(text) {
+        if error.kind() == ErrorKind::BrokenPipe {
+            leave(console);
+            return;
+        }
         print_error(console, b"standard output cannot be written");
         console.is_silent.set(true);
     }
