@@ -16,7 +16,10 @@ overflow_add-after c =
 
 pub store_at_target-requires : goal.store_at_target-requires
 store_at_target-requires c =
-    record { row = c.requires.row; room = (going c.requires.filling c.args.at (c.requires.filling.start c.requires.at) c.if-height.false c.requires.row).room }
+    record {
+      row = c.requires.row;
+      room = (going c.requires.filling c.args.at (c.requires.filling.start c.requires.at) c.if-height.false c.requires.row).room;
+    }
 
 pub store_at_next-requires : goal.store_at_next-requires
 store_at_next-requires c =

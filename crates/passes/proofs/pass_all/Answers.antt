@@ -25,4 +25,6 @@ returns-in-Refused-aim c =
 
 pub returns-in-Fine : goal.returns-in-Fine
 returns-in-Fine c =
-    let p = c.requires in let s = c.in-Count.ensures in c.conclude.ensures _ _ c.measure.ensures s.1 ∙ sym (verdict_3 _ p.1 p.2 s.0 (aim_fine _ c.in-Fine.ensures))
+    let p = c.requires in
+    let s = c.in-Count.ensures in
+    c.conclude.ensures _ _ c.measure.ensures s.1 ∙ sym (verdict_3 _ p.1 p.2 s.0 (aim_fine _ c.in-Fine.ensures))

@@ -7,7 +7,9 @@ returns-then-jump-ne-ON c = turns_doubt c.in_doubt.ensures
 
 pub brought_to-flow-requires : goal.brought_to-flow-requires
 brought_to-flow-requires c =
-    let w = c.jump-jump.ensures.on (omega arith) in let a = c.requires.0.stands in (omega (arith, w.room, a.heights_long), omega (arith, w.room, a.distances_long))
+    let w = c.jump-jump.ensures.on (omega arith) in
+    let a = c.requires.0.stands in
+    (omega (arith, w.room, a.heights_long), omega (arith, w.room, a.distances_long))
 
 pub returns-then-s-flow : goal.returns-then-s-flow
 returns-then-s-flow c = turns_doubt c.in_doubt-then-s-flow.ensures

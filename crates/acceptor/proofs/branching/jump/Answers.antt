@@ -20,4 +20,7 @@ returns-then-e-target c = jumped_doubt c.no_jump-then-e-target.ensures
 
 pub returns : goal.returns
 returns c =
-    let w = c.wide.ensures.0 in let n = c.is_new-fresh.ensures in jumped_by _ _ c.requires.6 (omega arith) (omega arith) (omega arith) c.operand_at-target.ensures.0 (omega arith) (omega arith) refl (λ q. omega (arith, n.1 (w ∙ q))) (λ q. omega (arith, n.2 (λ z. q (sym w ∙ z)))) c.arrive_at.ensures.0 c.arrive_at.ensures.1
+    let w = c.wide.ensures.0 in
+    let n = c.is_new-fresh.ensures in
+    jumped_by _ _ c.requires.6 (omega arith) (omega arith) (omega arith) c.operand_at-target.ensures.0 (omega arith) (omega arith) refl
+    (λ q. omega (arith, n.1 (w ∙ q))) (λ q. omega (arith, n.2 (λ z. q (sym w ∙ z)))) c.arrive_at.ensures.0 c.arrive_at.ensures.1

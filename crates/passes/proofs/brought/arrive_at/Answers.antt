@@ -7,4 +7,7 @@ use Rattle.passes.proofs.brought.arrive_at.Goals as goal
 pub returns : goal.returns
 unfolding arrive raise
 returns c =
-    let a = c.args in (ap (λ (x : ℕ). set a.heights.now a.to x) (c.joined_with.ensures.0 ∙ ap (λ (y : ℕ). joined y a.height) c.wide.ensures.0), ap (λ (x : ℕ). set a.distances.now a.to x) (c.greater.ensures ∙ ap (λ (y : ℕ). max y a.distance) c.wide16.ensures.0))
+    let a = c.args in (
+      ap (λ (x : ℕ). set a.heights.now a.to x) (c.joined_with.ensures.0 ∙ ap (λ (y : ℕ). joined y a.height) c.wide.ensures.0),
+      ap (λ (x : ℕ). set a.distances.now a.to x) (c.greater.ensures ∙ ap (λ (y : ℕ). max y a.distance) c.wide16.ensures.0),
+    )

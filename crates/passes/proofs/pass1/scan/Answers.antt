@@ -35,7 +35,11 @@ bounds-marks-at c =
 
 pub loop-at-preserved : goal.loop-at-preserved
 loop-at-preserved c =
-    let n = c.look-seen.ensures.1 in (rw (c.column.ensures, n.count_is, n.table_is, c.column-kind.ensures) (scanning_turn c.loop-at.invariant.0 (search rules) (omega (arith, c.look-seen.ensures.0))), search rules, search rules)
+    let n = c.look-seen.ensures.1 in (
+      rw (c.column.ensures, n.count_is, n.table_is, c.column-kind.ensures) (scanning_turn c.loop-at.invariant.0 (search rules) (omega (arith, c.look-seen.ensures.0))),
+      search rules,
+      search rules,
+    )
 
 pub returns : goal.returns
 returns c = scanning_end c.loop-at.invariant.0 (search rules) (search rules)

@@ -9,7 +9,10 @@ use Rattle.passes.proofs.pass2.fault_at.Goals as goal
 
 pub operand_at-target-requires : goal.operand_at-target-requires
 operand_at-target-requires c =
-    let a = c.args in let p = c.requires in let q = jumps_kind a.e.now a.at p.4 in record { count = sym (jump_operands (get_or a.e.now a.at 0) q.0 q.1); within = decodes_fits a.e.now a.at p.1 p.3 }
+    let a = c.args in
+    let p = c.requires in
+    let q = jumps_kind a.e.now a.at p.4 in
+    record { count = sym (jump_operands (get_or a.e.now a.at 0) q.0 q.1); within = decodes_fits a.e.now a.at p.1 p.3 }
 
 pub returns-then-e-target : goal.returns-then-e-target
 returns-then-e-target c = f_past _ _ c.requires.4 (omega arith)

@@ -8,7 +8,12 @@ use Rattle.passes.proofs.pass3.effect_by.Goals as goal
 
 pub returns-then-not-has : goal.returns-then-not-has
 returns-then-not-has c =
-    λ e k n l o. let f = c.has.ensures.no c.if-not-has.true in record { number = c.refused.ensures ∙ fault_few e k c.args.s.height c.requires.1 (omega arith); onward = λ z. absurd (omega (arith, c.refused.ensures)) }
+    λ e k n l o.
+    let f = c.has.ensures.no c.if-not-has.true in
+    record {
+      number = c.refused.ensures ∙ fault_few e k c.args.s.height c.requires.1 (omega arith);
+      onward = λ z. absurd (omega (arith, c.refused.ensures));
+    }
 
 pub overflow_sub-after : goal.overflow_sub-after
 overflow_sub-after c =
@@ -16,12 +21,36 @@ overflow_sub-after c =
 
 pub returns-then-not-fits : goal.returns-then-not-fits
 returns-then-not-fits c =
-    λ e k n l o. let h = c.has.ensures.yes c.if-not-has.false in let f = c.fits.ensures.no c.if-not-fits.true in let x = c.args.s in let a = after_by e k x.height c.args.needed c.args.left n l in record { number = c.refused-then-not-fits.ensures ∙ fault_many e k x.height c.requires.1 (omega arith) (omega arith); onward = λ z. absurd (omega (arith, c.refused-then-not-fits.ensures)) }
+    λ e k n l o.
+    let h = c.has.ensures.yes c.if-not-has.false in
+    let f = c.fits.ensures.no c.if-not-fits.true in
+    let x = c.args.s in
+    let a = after_by e k x.height c.args.needed c.args.left n l in
+    record {
+      number = c.refused-then-not-fits.ensures ∙ fault_many e k x.height c.requires.1 (omega arith) (omega arith);
+      onward = λ z. absurd (omega (arith, c.refused-then-not-fits.ensures));
+    }
 
 pub returns-then-is_off : goal.returns-then-is_off
 returns-then-is_off c =
-    λ e k n l o. let h = c.has.ensures.yes c.if-not-has.false in let f = c.fits.ensures.yes c.if-not-fits.false in let x = c.args.s in let a = after_by e k x.height c.args.needed c.args.left n l in record { number = c.refused-then-is_off.ensures ∙ fault_off e k x.height c.requires.1 (omega arith) (omega arith) (sym o ∙ c.if-is_off.true); onward = λ z. absurd (omega (arith, c.refused-then-is_off.ensures)) }
+    λ e k n l o.
+    let h = c.has.ensures.yes c.if-not-has.false in
+    let f = c.fits.ensures.yes c.if-not-fits.false in
+    let x = c.args.s in
+    let a = after_by e k x.height c.args.needed c.args.left n l in
+    record {
+      number = c.refused-then-is_off.ensures ∙ fault_off e k x.height c.requires.1 (omega arith) (omega arith) (sym o ∙ c.if-is_off.true);
+      onward = λ z. absurd (omega (arith, c.refused-then-is_off.ensures));
+    }
 
 pub returns : goal.returns
 returns c =
-    λ e k n l o. let h = c.has.ensures.yes c.if-not-has.false in let f = c.fits.ensures.yes c.if-not-fits.false in let x = c.args.s in let a = after_by e k x.height c.args.needed c.args.left n l in record { number = fault_none e k x.height c.requires.1 (omega arith) (omega arith) (sym o ∙ c.if-is_off.false); onward = λ z. record { height_is = a; distance_is = refl; greatest_is = c.greater.ensures ∙ ap (max x.greatest) a; longest_is = refl } }
+    λ e k n l o.
+    let h = c.has.ensures.yes c.if-not-has.false in
+    let f = c.fits.ensures.yes c.if-not-fits.false in
+    let x = c.args.s in
+    let a = after_by e k x.height c.args.needed c.args.left n l in
+    record {
+      number = fault_none e k x.height c.requires.1 (omega arith) (omega arith) (sym o ∙ c.if-is_off.false);
+      onward = λ z. record { height_is = a; distance_is = refl; greatest_is = c.greater.ensures ∙ ap (max x.greatest) a; longest_is = refl };
+    }

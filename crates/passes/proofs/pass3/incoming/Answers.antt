@@ -15,4 +15,7 @@ returns-then-height-eq-UNREACHED c =
 
 pub returns : goal.returns
 returns c =
-    let a = c.args in incoming_both _ _ _ _ c.if-height-eq-UNREACHED.false (c.joined_with.ensures.0 ∙ ap (λ (y : ℕ). joined y a.height) c.wide-cell.ensures.0) c.joined_with.ensures.1 (c.greater.ensures ∙ ap (λ (y : ℕ). max y a.distance) c.wide16-far.ensures.0)
+    let a = c.args in
+    incoming_both _ _ _ _ c.if-height-eq-UNREACHED.false
+    (c.joined_with.ensures.0 ∙ ap (λ (y : ℕ). joined y a.height) c.wide-cell.ensures.0) c.joined_with.ensures.1
+    (c.greater.ensures ∙ ap (λ (y : ℕ). max y a.distance) c.wide16-far.ensures.0)

@@ -7,7 +7,8 @@ use Rattle.passes.proofs.pass3.step_jump.Goals as goal
 
 pub returns-then-after-ne0 : goal.returns-then-after-ne0
 returns-then-after-ne0 c =
-    let p = c.requires in let x = c.effect_by-after.ensures c.args.e.now c.args.at (c.wide.ensures.0 ∙ p.jump.2) (c.wide-2.ensures.0 ∙ p.jump.3) p.jump.4 in
+    let p = c.requires in
+    let x = c.effect_by-after.ensures c.args.e.now c.args.at (c.wide.ensures.0 ∙ p.jump.2) (c.wide-2.ensures.0 ∙ p.jump.3) p.jump.4 in
     (x, record { heights_are = λ z. absurd (c.if-after-ne0.true z); distances_are = λ z. absurd (c.if-after-ne0.true z) })
 
 pub operand_at-target-requires : goal.operand_at-target-requires
@@ -17,13 +18,19 @@ operand_at-target-requires c =
 
 pub arrive_at-requires : goal.arrive_at-requires
 arrive_at-requires c =
-    let p = c.requires in let x = c.effect_by-after.ensures c.args.e.now c.args.at (c.wide.ensures.0 ∙ p.jump.2) (c.wide-2.ensures.0 ∙ p.jump.3) p.jump.4 in
-    let t = passing_target p.reached.passing p.jump.0 p.jump.1 in let o = c.operand_at-target.ensures.0 in let g = x.onward (omega arith) in
-    (omega (arith, t, o, p.reached.heights_long), omega (arith, t, o, p.reached.distances_long), omega (arith, effected_low x (omega arith)), omega (arith, g.distance_is, p.reached.near))
+    let p = c.requires in
+    let x = c.effect_by-after.ensures c.args.e.now c.args.at (c.wide.ensures.0 ∙ p.jump.2) (c.wide-2.ensures.0 ∙ p.jump.3) p.jump.4 in
+    let t = passing_target p.reached.passing p.jump.0 p.jump.1 in let o = c.operand_at-target.ensures.0 in let g = x.onward (omega arith) in (
+      omega (arith, t, o, p.reached.heights_long),
+      omega (arith, t, o, p.reached.distances_long),
+      omega (arith, effected_low x (omega arith)),
+      omega (arith, g.distance_is, p.reached.near),
+    )
 
 pub returns : goal.returns
 returns c =
-    let p = c.requires in let x = c.effect_by-after.ensures c.args.e.now c.args.at (c.wide.ensures.0 ∙ p.jump.2) (c.wide-2.ensures.0 ∙ p.jump.3) p.jump.4 in
+    let p = c.requires in
+    let x = c.effect_by-after.ensures c.args.e.now c.args.at (c.wide.ensures.0 ∙ p.jump.2) (c.wide-2.ensures.0 ∙ p.jump.3) p.jump.4 in
     let g = x.onward (omega arith) in let o = c.operand_at-target.ensures.0 in (
       x,
       record {

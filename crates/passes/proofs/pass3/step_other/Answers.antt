@@ -34,22 +34,30 @@ step_jump-requires c =
     let p = c.requires in let e = c.args.e.now in let k = c.args.at in
     let q : kind_at e k ≡ kind_if_goto = omega arith in let x = if_goto_cells 0x20 kinds.1 in let y = if_goto_cells (get_or e k 0) q in
     let n = c.look_up.ensures.needed_is ∙ x.0 ∙ sym y.0 in let l = c.look_up.ensures.left_is ∙ x.1 ∙ sym y.1 in
-    record { reached = p.reached; jump = (omega (arith, q), omega (arith, q), needed_row e k _ n (omega (arith, q)), left_row e k _ l (omega (arith, q)), off_other e k _ (omega (arith, q)) (omega (arith, q)) p.straight.0) }
+    record {
+      reached = p.reached;
+      jump = (omega (arith, q), omega (arith, q), needed_row e k _ n (omega (arith, q)), left_row e k _ l (omega (arith, q)), off_other e k _ (omega (arith, q)) (omega (arith, q)) p.straight.0);
+    }
 
 pub returns-then-kind-eq-IF_GOTO : goal.returns-then-kind-eq-IF_GOTO
 returns-then-kind-eq-IF_GOTO c =
-    let x = c.step_jump.ensures in stepped_on _ _ _ _ _ _ (omega (arith, c.requires.straight.1, c.if-kind-eq-IF_GOTO.true)) (omega (arith, c.requires.straight.1, c.if-kind-eq-IF_GOTO.true)) x.0 x.1
+    let x = c.step_jump.ensures in
+    stepped_on _ _ _ _ _ _ (omega (arith, c.requires.straight.1, c.if-kind-eq-IF_GOTO.true)) (omega (arith, c.requires.straight.1, c.if-kind-eq-IF_GOTO.true)) x.0 x.1
 
 pub step_jump-after-requires : goal.step_jump-after-requires
 step_jump-after-requires c =
     let p = c.requires in let e = c.args.e.now in let k = c.args.at in
     let q : kind_at e k ≡ kind_goto = omega arith in let x = goto_cells 0x21 kinds.2 in let y = goto_cells (get_or e k 0) q in
     let n = c.look_up-then-kind-eq-GOTO.ensures.needed_is ∙ x.0 ∙ sym y.0 in let l = c.look_up-then-kind-eq-GOTO.ensures.left_is ∙ x.1 ∙ sym y.1 in
-    record { reached = p.reached; jump = (omega (arith, q), omega (arith, q), needed_row e k _ n (omega (arith, q)), left_row e k _ l (omega (arith, q)), off_goto e k q) }
+    record {
+      reached = p.reached;
+      jump = (omega (arith, q), omega (arith, q), needed_row e k _ n (omega (arith, q)), left_row e k _ l (omega (arith, q)), off_goto e k q);
+    }
 
 pub returns-then-kind-eq-GOTO : goal.returns-then-kind-eq-GOTO
 returns-then-kind-eq-GOTO c =
-    let x = c.step_jump-after.ensures in stepped_goto _ _ _ _ _ _ (omega (arith, c.requires.straight.1, c.if-kind-eq-GOTO.true)) x.0 x.1 c.halted.ensures
+    let x = c.step_jump-after.ensures in
+    stepped_goto _ _ _ _ _ _ (omega (arith, c.requires.straight.1, c.if-kind-eq-GOTO.true)) x.0 x.1 c.halted.ensures
 
 pub returns : goal.returns
 returns c =
