@@ -1,7 +1,6 @@
 -- What the number says by itself.
-use mathlib.Core.List.{List}
 use mathlib.Core.Path.{◌≡◌, refl}
-use Prim.Native.Nat.{ℕ, ◌≤◌}
+use Prim.Native.Nat.{◌≤◌}
 use native.Mathlib.Omega.{arith}
 use Rattle.machine.specs.Given.{Given}
 use Rattle.machine.specs.Machine.{Ended, completed, stopped}

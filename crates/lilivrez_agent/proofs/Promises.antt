@@ -1,6 +1,5 @@
 -- What users of the library may cite. The contracts of src/ say what each function returns and stores, on any input
 -- whatever; the rest follows from them.
-use mathlib.Core.List.{List}
 use mathlib.Core.Logic.{◌≢◌}
 use mathlib.Core.Path.{◌≡◌}
 use Prim.Native.Nat.{ℕ, ◌+◌, ◌≤◌}

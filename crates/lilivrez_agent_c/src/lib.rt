@@ -34,7 +34,15 @@ pub extern "C" fn lilivrez_fetch<'a>(
     ensures number { result ≡ fetch_refusal (target image_first image.now work_first work.now) address size }
     ensures values { out.new ≡ fetch_values (lent_at (target image_first image.now work_first work.now) address size) }
 {
-    lilivrez_agent::fetching::lilivrez_fetch(image_first, image, work_first, work, address, size, out)
+    lilivrez_agent::fetching::lilivrez_fetch(
+        image_first,
+        image,
+        work_first,
+        work,
+        address,
+        size,
+        out,
+    )
 }
 
 // Verifies the expression, checks the inputs, and runs it: at most `allowance` instructions. Returns the number of the
@@ -57,7 +65,20 @@ pub extern "C" fn lilivrez_run<'a>(
 ) -> u32
     ensures { RunNumbers (given expression.now registers.now variables.old (target image_first image.now work_first work.now) tracepoint buffer.old used allowance) result out.new variables.new buffer.new }
 {
-    lilivrez_agent::running::lilivrez_run(expression, registers, image_first, image, work_first, work, variables, buffer, used, tracepoint, allowance, out)
+    lilivrez_agent::running::lilivrez_run(
+        expression,
+        registers,
+        image_first,
+        image,
+        work_first,
+        work,
+        variables,
+        buffer,
+        used,
+        tracepoint,
+        allowance,
+        out,
+    )
 }
 
 // The same without an allowance given: at most 1,024 instructions.
@@ -77,5 +98,17 @@ pub extern "C" fn lilivrez_run_default<'a>(
 ) -> u32
     ensures { RunNumbers (given expression.now registers.now variables.old (target image_first image.now work_first work.now) tracepoint buffer.old used default_allowance) result out.new variables.new buffer.new }
 {
-    lilivrez_agent::running::lilivrez_run_default(expression, registers, image_first, image, work_first, work, variables, buffer, used, tracepoint, out)
+    lilivrez_agent::running::lilivrez_run_default(
+        expression,
+        registers,
+        image_first,
+        image,
+        work_first,
+        work,
+        variables,
+        buffer,
+        used,
+        tracepoint,
+        out,
+    )
 }
