@@ -4,8 +4,8 @@
 ghost use Rattle.io.specs.Counts.{IsPrefixLen};
 
 use hexadecimal::HexAnswer;
-use libc::STDOUT_FILENO;
 use refusals::Refusal;
+use std::io::Error;
 use text_buffer::{append, append_number};
 use verdict::Verification;
 
@@ -40,45 +40,43 @@ fn append_answer(out: &mut [u8], expression: &[u8]) -> usize
     }
 }
 
-fn print_answer(expression: &[u8]) {
+fn print_answer(rt: &impl Print, expression: &[u8]) -> Result<(), Error> {
     let mut line = [0u8; 64];
     let n = append_answer(&mut line, expression);
-    io::write_all(STDOUT_FILENO, &line[..n]);
+    rt.write_all(&line[..n])
 }
 
-fn print_broken() {
-    io::write_all(STDOUT_FILENO, b"error: not a line of hexadecimal\n");
+fn print_broken(rt: &impl Print) -> Result<(), Error> {
+    rt.write_all(b"error: not a line of hexadecimal\n")
 }
 
-fn answer_text(text: &[u8]) {
+fn answer_text(rt: &impl Print, text: &[u8]) -> Result<(), Error> {
     let mut bytes = [0u8; 4096];
     match hexadecimal::decode(text, &mut bytes) {
-        HexAnswer::Bytes(n) => print_answer(&bytes[0..n]),
-        _ => print_broken(),
+        HexAnswer::Bytes(n) => print_answer(rt, &bytes[0..n]),
+        _ => print_broken(rt),
     }
 }
 
 // The answer to a line of `len` characters, of which the buffer holds all unless it is too short.
-fn answer(text: &[u8], len: usize) {
+fn answer(rt: &impl Print, text: &[u8], len: usize) -> Result<(), Error> {
     if text.len() < len {
-        print_broken();
-        return;
+        return print_broken(rt);
     }
-    answer_text(&text[0..len]);
+    answer_text(rt, &text[0..len])
 }
 
-// The count of turns is there for the proof that the loop ends; no input uses it up.
-fn main() {
+// The loop has a last turn for the proof that it ends; no input comes to it.
+fn main(rt: HostRuntime) -> Result<(), Error> {
     let mut input = io::large_buffer();
     let mut text = [0u8; 8192];
-    let mut line = lines::start();
-    let mut turns = u64::MAX;
-    while turns > 0 {
+    let mut line = lines::start(&rt);
+    for _ in 0..u64::MAX {
         line = lines::next(&mut input, &mut text, line);
         if !line.is_line {
             break;
         }
-        answer(&text, line.len);
-        turns -= 1;
+        answer(&rt, &text, line.len)?;
     }
+    Ok(())
 }
