@@ -21,8 +21,8 @@ use fields::{field, is_last, is_number, number_of};
 use inputs::{
     buffer_room, put_buffer, put_bytes, put_registers, put_span, put_variables, span_room,
 };
-use libc::STDOUT_FILENO;
 use runner::Outcome;
+use std::io::Error;
 use text::{append_broken, append_buffer, append_outcome, append_variables};
 use text_buffer::append;
 
@@ -261,35 +261,33 @@ fn append_line(out: &mut [u8], line: &[u8]) -> usize
     append_broken(out)
 }
 
-fn print_answer(line: &[u8]) {
+fn print_answer(rt: &impl Print, line: &[u8]) -> Result<(), Error> {
     let mut out = [0u8; 4096];
     let n = append_line(&mut out, line);
     let end = append(&mut out, n, b"\n");
-    io::write_all(STDOUT_FILENO, &out[..end]);
+    rt.write_all(&out[..end])
 }
 
 // The answer to a line of `len` characters. The buffer holds them all unless it is too short; then
 // the line is broken, as an empty one is.
-fn answer(text: &[u8], len: usize) {
+fn answer(rt: &impl Print, text: &[u8], len: usize) -> Result<(), Error> {
     if text.len() < len {
-        print_answer(&text[0..0]);
-        return;
+        return print_answer(rt, &text[0..0]);
     }
-    print_answer(&text[0..len]);
+    print_answer(rt, &text[0..len])
 }
 
-// The count of turns is there for the proof that the loop ends; no input uses it up.
-fn main() {
+// The loop has a last turn for the proof that it ends; no input comes to it.
+fn main(rt: HostRuntime) -> Result<(), Error> {
     let mut input = io::large_buffer();
     let mut text = [0u8; 4096];
-    let mut line = lines::start();
-    let mut turns = u64::MAX;
-    while turns > 0 {
+    let mut line = lines::start(&rt);
+    for _ in 0..u64::MAX {
         line = lines::next(&mut input, &mut text, line);
         if !line.is_line {
             break;
         }
-        answer(&text, line.len);
-        turns -= 1;
+        answer(&rt, &text, line.len)?;
     }
+    Ok(())
 }
