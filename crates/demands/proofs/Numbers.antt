@@ -2,8 +2,8 @@
 use mathlib.Core.Bool.{Bool, true, false, cond, not, ◌&&◌, ◌||◌}
 use mathlib.Core.List.{List, [], ◌∷◌, ◌++◌, map}
 use mathlib.Core.Logic.{◌⊎◌, ◌↔◌, ◌≢◌, inl, inr, ⊎_elim}
-use mathlib.Core.Path.{◌≡◌, refl, sym}
-use Prim.Native.Nat.{ℕ, ◌≤◌, ◌<◌}
+use mathlib.Core.Path.{subst, ◌≡◌, refl, sym}
+use Prim.Native.Nat.{ℕ}
 use native.Mathlib.Omega.{arith}
 use lib.Dec.{T, ltb, eqb}
 use borrow.Author.Tests.{eqb-true, ne_eqb}
@@ -121,4 +121,4 @@ examples_give walk = refl
 examples_give next_record_of = refl
 
 pub exact : (x : Entry) (r : ℕ) → Gives x r ↔ T (member r (0 ∷ numbers_of x))
-exact x r = (λ g. rw (← g.2) (listed x g.0), λ t. found x (examples x) (examples_typed x) r (rw (examples_give x) t))
+exact x r = (λ g. subst (λ (n : ℕ). T (member n (0 ∷ numbers_of x))) g.2 (listed x g.0), λ t. found x (examples x) (examples_typed x) r (rw (examples_give x) t))

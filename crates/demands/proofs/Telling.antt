@@ -14,9 +14,9 @@ use Rattle.frames.specs.Record.{Record, memory, variable, encode_all, AllWellFor
 use Rattle.frames.specs.declared.Tag.{Tag}
 use Rattle.frames.specs.Trailer.{TagFits}
 use Rattle.frames.specs.Frame.{encode_frame}
-use Rattle.machine.specs.Recorded.{FromTarget, AllFromTarget}
+use Rattle.machine.specs.Recorded.{AllFromTarget}
 use Rattle.machine.proofs.Promises.{recorded_byte}
-use Rattle.reader.specs.Read.{Read, memory_read, told, reading}
+use Rattle.reader.specs.Read.{memory_read, told, reading}
 use Rattle.reader.proofs.Promises as reader
 use Rattle.demands.proofs.Leaving.{At, at, all_at}
 

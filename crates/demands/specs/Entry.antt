@@ -10,7 +10,7 @@ use contract.Lifetimes.{Lfts}
 use contract.Monad.{fact}
 use contract.Running.{Running}
 use denote.Triple.Entry.{Args, Res}
-use denote.Triple.Clauses.{Ended, AtExit, ClausesAt, Clauses, closing}
+use denote.Triple.Clauses.{Ended, AtExit, closing}
 use denote.Triple.Spec.{Meets}
 
 -- a fact of the arguments a function is called with, its answer, and the arguments as it leaves them

@@ -1,7 +1,6 @@
 -- What a run returns and stores, in numbers (include/lilivrez_agent.h).
 use Rattle.std.specs.Prelude.{List, [], ◌∷◌, ℕ, get_or}
 use Rattle.runner.specs.Returned.{answer_of}
-use Rattle.runner.specs.declared.Value.{Value}
 use Rattle.runner.specs.declared.Outcome.{Outcome}
 use Rattle.runner.specs.declared.Outcome.TheVariants.{Completed, Refused}
 use Rattle.lilivrez_agent.specs.RunValues.{cell_values}
