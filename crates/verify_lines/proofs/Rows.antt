@@ -2,10 +2,8 @@
 use Prim.Native.Nat.{ℕ, ◌+◌, ◌-◌, ◌^◌, ◌≤◌, ◌<◌}
 use native.Mathlib.Omega.{arith}
 use mathlib.Core.Bool.{Bool, true, false, ◌&&◌}
-use mathlib.Core.List.{List, [], ◌∷◌, ◌++◌, map, append-nil}
-use mathlib.Core.Logic.{⊎_elim}
+use mathlib.Core.List.{List, [], ◌++◌, map, append-nil}
 use mathlib.Core.Path.{◌≡◌, refl, sym, ap, ◌∙◌}
-use types.Run.{OneOf}
 use lib.Dec.{ltb}
 use lib.ListN.{length, take, drop, get_or, replicate, length-replicate, replicate-append-replicate}
 use lib.Seq.{take_all, drop_at}
@@ -75,10 +73,6 @@ module _ (e : List ℕ) (low : AllBytes e) (k : ℕ) (h : k < 2 ^ 64) (i : is_in
       let z : n - 0 ≡ l = omega arith in
       let w : o' ≡ written_at o 0 (text_at e k) = rw written_whole at q in
       ap (λ (j : ℕ). take j o') z ∙ ap (take l) w ∙ written_read o 0 (text_at e k) (omega (arith, text_length e low k h, room))
-
--- of its three answers, the first is not one of the others
-pub not_others {ℓ} : {X : Type ℓ} → OneOf (1 ∷ 2 ∷ []) 0 → X
-not_others o = ⊎_elim (λ p. absurd (omega arith)) (λ p. absurd (omega arith)) o
 
 -- ---- the offsets with a row
 module _ (e : List ℕ) (k : ℕ) where
