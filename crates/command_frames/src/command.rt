@@ -2,7 +2,9 @@
 // part of a trace buffer.
 use crate::gdb;
 use crate::show::{print_frames, print_one_frame, print_one_record};
-use console_output::{print_error, print_error_at, print_error_of, print_failure, refuse_option};
+use console_output::{
+    Console, print_error, print_error_at, print_error_of, print_failure, refuse_option,
+};
 use files::Loaded;
 use line_words::numbers::Number;
 
@@ -17,60 +19,59 @@ enum Asked {
 }
 
 // The number that a word of the command is; where it is none, the error is printed. Behind -- no word is an option.
-fn read_number(word: &[u8], is_operand: bool) -> Number {
+fn read_number(console: &Console, word: &[u8], is_operand: bool) -> Number {
     let number = line_words::numbers::unsigned(word, 10);
     match number {
         Number::Value(v) => Number::Value(v),
         Number::Large => {
-            print_error_of(word, b"the number is too large");
+            print_error_of(console, word, b"the number is too large");
             Number::Large
         }
         Number::Not => {
             if !is_operand {
-                if refuse_option(word) {
+                if refuse_option(console, word) {
                     return Number::Not;
                 }
             }
-            print_error_of(word, b"not a number from 0 on, in decimal digits");
+            print_error_of(console, word, b"not a number from 0 on, in decimal digits");
             Number::Not
         }
     }
 }
 
-fn number_at(i: usize) -> Number {
+fn number_at(console: &Console, i: usize) -> Number {
     let mut word = io::buffer();
-    let n = arguments::get(i, &mut word);
-    read_number(&word[..n], arguments::is_operand(i))
+    let n = arguments::get(&console.rt, i, &mut word);
+    read_number(console, &word[..n], arguments::is_operand(&console.rt, i))
 }
 
 // ---- the file
-fn export(buffer: &[u8]) {
+fn export(console: &Console, buffer: &[u8]) {
     let mut name = io::buffer();
-    let n = arguments::get(4, &mut name);
-    if os::errno() != 0 {
-        print_error(b"the name of OUT is too long");
-        return;
+    match arguments::whole(&console.rt, 4, &mut name) {
+        Some(n) => gdb::export(console, &name[..n], buffer),
+        None => print_error(console, b"the name of OUT is too long"),
     }
-    gdb::export(&name[..n], buffer);
 }
 
-fn show(buffer: &[u8], asked: Asked) {
+fn show(console: &Console, buffer: &[u8], asked: Asked) {
     let used = buffer.len();
     match asked {
-        Asked::All => print_frames(buffer, used),
-        Asked::Export => export(buffer),
-        Asked::Frame(number) => print_one_frame(buffer, used, number),
-        Asked::Record(number, index) => print_one_record(buffer, used, number, index),
+        Asked::All => print_frames(console, buffer, used),
+        Asked::Export => export(console, buffer),
+        Asked::Frame(number) => print_one_frame(console, buffer, used, number),
+        Asked::Record(number, index) => print_one_record(console, buffer, used, number, index),
     }
 }
 
-fn show_file(name: &[u8], asked: Asked) {
+fn show_file(console: &Console, name: &[u8], asked: Asked) {
     let mut bytes = io::large_buffer();
-    match files::load(name, &mut bytes) {
-        Loaded::Bytes(n) => show(&bytes[0..n], asked),
-        Loaded::NotOpened(errno) => print_failure(name, errno),
-        Loaded::NotRead(errno) => print_failure(name, errno),
+    match files::load(&console.rt, name, &mut bytes) {
+        Loaded::Bytes(n) => show(console, &bytes[0..n], asked),
+        Loaded::NotOpened(errno) => print_failure(console, name, errno),
+        Loaded::NotRead(errno) => print_failure(console, name, errno),
         Loaded::TooLong => print_error_at(
+            console,
             name,
             0,
             0,
@@ -79,108 +80,118 @@ fn show_file(name: &[u8], asked: Asked) {
     }
 }
 
-fn show_named(asked: Asked) {
+fn show_named(console: &Console, asked: Asked) {
     let mut name = io::buffer();
-    let n = arguments::get(2, &mut name);
-    if os::errno() != 0 {
-        print_error(b"the name of FILE is too long");
-        return;
+    match arguments::whole(&console.rt, 2, &mut name) {
+        Some(n) => show_file(console, &name[..n], asked),
+        None => print_error(console, b"the name of FILE is too long"),
     }
-    show_file(&name[..n], asked);
 }
 
-fn show_record(number: u64) {
-    match number_at(4) {
-        Number::Value(index) => show_named(Asked::Record(number, index)),
+fn show_record(console: &Console, number: u64) {
+    match number_at(console, 4) {
+        Number::Value(index) => show_named(console, Asked::Record(number, index)),
         _ => return,
     }
 }
 
-fn show_asked(count: usize) {
-    match number_at(3) {
+fn show_asked(console: &Console, count: usize) {
+    match number_at(console, 3) {
         Number::Value(number) => {
             if count == 4 {
-                show_named(Asked::Frame(number));
+                show_named(console, Asked::Frame(number));
                 return;
             }
-            show_record(number);
+            show_record(console, number);
         }
         _ => return,
     }
 }
 
-fn is_export() -> bool {
-    if arguments::is_operand(3) {
+fn is_export(console: &Console) -> bool {
+    if arguments::is_operand(&console.rt, 3) {
         return false;
     }
     let mut word = [0u8; 8];
-    let n = arguments::get(3, &mut word);
+    let n = arguments::get(&console.rt, 3, &mut word);
     check::same(&word[..n], b"--gdb")
 }
 
 // Whether OUT is the file that is read, under whatever name. Where OUT is -, nothing is written over.
-fn is_same_file() -> bool {
+fn is_same_file(console: &Console) -> bool {
     let mut out = io::buffer();
-    let m = arguments::get(4, &mut out);
+    let m = arguments::get(&console.rt, 4, &mut out);
     if files::is_standard(&out[..m]) {
         return false;
     }
     let mut name = io::buffer();
-    let n = arguments::get(2, &mut name);
-    files::is_same(&name[..n], &out[..m])
+    let n = arguments::get(&console.rt, 2, &mut name);
+    files::is_same(&console.rt, &name[..n], &out[..m])
 }
 
-fn show_export(count: usize) {
+fn show_export(console: &Console, count: usize) {
     if count == 4 {
-        print_error(b"OUT is missing: write lilivrez frames FILE --gdb OUT");
+        print_error(
+            console,
+            b"OUT is missing: write lilivrez frames FILE --gdb OUT",
+        );
         return;
     }
-    if is_same_file() {
-        print_error(b"OUT is FILE: the saved trace buffer would be lost");
+    if is_same_file(console) {
+        print_error(
+            console,
+            b"OUT is FILE: the saved trace buffer would be lost",
+        );
         return;
     }
-    show_named(Asked::Export);
+    show_named(console, Asked::Export);
 }
 
-fn refuse_word(i: usize) {
+fn refuse_word(console: &Console, i: usize) {
     let mut word = io::buffer();
-    let n = arguments::get(i, &mut word);
-    print_error_of(&word[..n], b"a word too many");
+    let n = arguments::get(&console.rt, i, &mut word);
+    print_error_of(console, &word[..n], b"a word too many");
 }
 
-fn refuse_option_at(i: usize) -> bool {
-    if arguments::is_operand(i) {
+fn refuse_option_at(console: &Console, i: usize) -> bool {
+    if arguments::is_operand(&console.rt, i) {
         return false;
     }
     let mut word = io::buffer();
-    let n = arguments::get(i, &mut word);
+    let n = arguments::get(&console.rt, i, &mut word);
     if check::same(&word[..n], b"--gdb") {
-        print_error(b"FILE comes before --gdb: write lilivrez frames FILE --gdb OUT");
+        print_error(
+            console,
+            b"FILE comes before --gdb: write lilivrez frames FILE --gdb OUT",
+        );
         return true;
     }
-    refuse_option(&word[..n])
+    refuse_option(console, &word[..n])
 }
 
-pub fn run() {
-    let count = arguments::count();
+pub fn run(console: &Console) {
+    let count = arguments::count(&console.rt);
     if count < 3 {
-        print_error(b"FILE is missing: write lilivrez frames FILE, or lilivrez help");
+        print_error(
+            console,
+            b"FILE is missing: write lilivrez frames FILE, or lilivrez help",
+        );
         return;
     }
-    if refuse_option_at(2) {
+    if refuse_option_at(console, 2) {
         return;
     }
     if 5 < count {
-        refuse_word(5);
+        refuse_word(console, 5);
         return;
     }
     if count == 3 {
-        show_named(Asked::All);
+        show_named(console, Asked::All);
         return;
     }
-    if is_export() {
-        show_export(count);
+    if is_export(console) {
+        show_export(console, count);
         return;
     }
-    show_asked(count);
+    show_asked(console, count);
 }

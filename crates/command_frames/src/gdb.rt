@@ -3,10 +3,13 @@ ghost use Rattle.std.specs.Prelude.{◌≤◌};
 
 use crate::places::{place_behind, records_of};
 use crate::show::frame_refusal;
-use console_output::{print_answer, print_answer_aside, print_write_failure};
+use console_output::{Console, print_answer, print_answer_aside, print_write_failure};
+use files::Draft;
 use phrases::numbers::append_count;
 use reader::{CountAnswer, FrameAnswer, RecordStep};
+use std::io::{Error, Write};
 use std::num::wrapping_add_u64;
+use system_errors::number_of;
 
 // ---- where the frames end
 // Puts into the table where each frame ends, from the newest on, and where the first that is refused would end. The
@@ -37,134 +40,141 @@ fn end_at(ends: &[usize; 8193], n: usize) -> usize
 }
 
 // ---- the pieces of the file
-fn write_start(fd: i32, frames: u64) -> bool {
+fn write_start(draft: &mut Draft, frames: u64) -> Result<(), Error> {
     let mut piece = [0u8; 160];
     let n = tracefile::head::append_start(&mut piece, 0, frames);
-    io::write_all(fd, &piece[..n])
+    draft.write_all(&piece[..n])
 }
 
-fn write_variable(fd: i32, number: u64) -> bool {
+fn write_variable(draft: &mut Draft, number: u64) -> Result<(), Error> {
     let mut piece = [0u8; 160];
     let n = tracefile::head::append_variable(&mut piece, 0, number);
-    io::write_all(fd, &piece[..n])
+    draft.write_all(&piece[..n])
 }
 
-fn write_variables(fd: i32) -> bool {
+fn write_variables(draft: &mut Draft) -> Result<(), Error> {
     let mut number: u64 = 0;
     while number < sizes::VARIABLE_COUNT as u64 {
-        if !write_variable(fd, number) {
-            return false;
-        }
+        write_variable(draft, number)?;
         number += 1;
     }
-    true
+    Ok(())
 }
 
-fn write_target(fd: i32) -> bool {
+fn write_target(draft: &mut Draft) -> Result<(), Error> {
     let mut piece = [0u8; 160];
     let n = tracefile::head::append_target(&mut piece, 0);
-    io::write_all(fd, &piece[..n])
+    draft.write_all(&piece[..n])
 }
 
-fn write_opening(fd: i32, buffer: &[u8], end: usize) -> bool {
+fn write_opening(draft: &mut Draft, buffer: &[u8], end: usize) -> Result<(), Error> {
     let mut piece = [0u8; 160];
     let n = tracefile::body::append_opening(&mut piece, 0, buffer, end);
-    io::write_all(fd, &piece[..n])
+    draft.write_all(&piece[..n])
 }
 
 // A record has fewer bytes than the trace buffer that it is read from, so that it fits the piece.
-fn write_record(fd: i32, piece: &mut [u8], buffer: &[u8], end: usize, place: usize) -> bool {
+fn write_record(
+    draft: &mut Draft,
+    piece: &mut [u8],
+    buffer: &[u8],
+    end: usize,
+    place: usize,
+) -> Result<(), Error> {
     let n = tracefile::body::append_record(piece, 0, buffer, end, place);
-    io::write_all(fd, &piece[..n])
+    draft.write_all(&piece[..n])
 }
 
-fn write_records(fd: i32, piece: &mut [u8], buffer: &[u8], start: usize, end: usize) -> bool {
+fn write_records(
+    draft: &mut Draft,
+    piece: &mut [u8],
+    buffer: &[u8],
+    start: usize,
+    end: usize,
+) -> Result<(), Error> {
     let mut place = start;
     while place < end {
-        if !write_record(fd, piece, buffer, end, place) {
-            return false;
-        }
+        write_record(draft, piece, buffer, end, place)?;
         place = place_behind(buffer, end, place);
     }
-    true
+    Ok(())
 }
 
-fn write_frame(fd: i32, piece: &mut [u8], buffer: &[u8], end: usize) -> bool {
-    if !write_opening(fd, buffer, end) {
-        return false;
-    }
+fn write_frame(
+    draft: &mut Draft,
+    piece: &mut [u8],
+    buffer: &[u8],
+    end: usize,
+) -> Result<(), Error> {
+    write_opening(draft, buffer, end)?;
     let part = records_of(buffer, end);
-    write_records(fd, piece, buffer, part.start, part.end)
+    write_records(draft, piece, buffer, part.start, part.end)
 }
 
 // The oldest frame comes first.
 fn write_frames(
-    fd: i32,
+    draft: &mut Draft,
     piece: &mut [u8],
     buffer: &[u8],
     ends: &[usize; 8193],
     frames: usize,
-) -> bool
+) -> Result<(), Error>
     requires { frames ≤ 8192 }
 {
     let mut left = frames;
     while 0 < left {
         left -= 1;
         let end = end_at(ends, left);
-        if !write_frame(fd, piece, buffer, end) {
-            return false;
-        }
+        write_frame(draft, piece, buffer, end)?;
     }
-    true
+    Ok(())
 }
 
-fn write_head(fd: i32, frames: u64) -> bool {
-    if !write_start(fd, frames) {
-        return false;
-    }
-    if !write_variables(fd) {
-        return false;
-    }
-    write_target(fd)
+fn write_head(draft: &mut Draft, frames: u64) -> Result<(), Error> {
+    write_start(draft, frames)?;
+    write_variables(draft)?;
+    write_target(draft)
 }
 
-fn write_file(fd: i32, buffer: &[u8], ends: &[usize; 8193], frames: usize) -> bool
+fn write_file(
+    draft: &mut Draft,
+    buffer: &[u8],
+    ends: &[usize; 8193],
+    frames: usize,
+) -> Result<(), Error>
     requires { frames ≤ 8192 }
 {
-    if !write_head(fd, frames as u64) {
-        return false;
-    }
+    write_head(draft, frames as u64)?;
     let mut piece = io::large_buffer();
-    if !write_frames(fd, &mut piece, buffer, ends, frames) {
-        return false;
-    }
-    io::write_all(fd, b"\x00\x00")
+    write_frames(draft, &mut piece, buffer, ends, frames)?;
+    draft.write_all(b"\x00\x00")
 }
 
 // ---- what is said of it
 // Where the file goes to standard output, on standard error.
-fn say(name: &[u8], text: &[u8]) {
+fn say(console: &Console, name: &[u8], text: &[u8]) {
     if files::is_standard(name) {
-        print_answer_aside(text);
+        print_answer_aside(console, text);
         return;
     }
-    print_answer(text);
+    print_answer(console, text);
 }
 
-fn say_frame(name: &[u8], buffer: &[u8], end: usize, number: u64) {
+fn say_frame(console: &Console, name: &[u8], buffer: &[u8], end: usize, number: u64) {
     let mut line = [0u8; 160];
     let n = frame_lines::lines::append_frame(&mut line, 0, buffer, end, number);
-    say(name, &line[..n]);
+    say(console, name, &line[..n]);
 }
 
-fn say_completed(name: &[u8], frames: u64) {
+fn say_completed(console: &Console, name: &[u8], frames: u64) {
     let mut line = [0u8; 160];
     let n = frame_lines::lines::append_completed(&mut line, 0, frames, b"frame", 0);
-    say(name, &line[..n]);
+    say(console, name, &line[..n]);
 }
 
-fn note_file(name: &[u8]) {
+fn note_file(console: &Console, name: &[u8]) {
     say(
+        console,
         name,
         b"note: start GDB without a program: it shows a program's read-only bytes as if they were recorded
 note: find frames by tfind N alone, 0 is the oldest: tfind tracepoint, pc, range, outside go wrong
@@ -178,7 +188,7 @@ note: the file names the architecture i386:x86-64: none is recorded
 
 // How much GDB cannot show as it was recorded: frames of tracepoint 0 and of one above 32767, and records that end at
 // the last address.
-#[derive(Drop)]
+#[derive(Clone, Copy)]
 struct Lost {
     zero: u64,
     large: u64,
@@ -241,7 +251,7 @@ fn count_lost(buffer: &[u8], ends: &[usize; 8193], frames: usize) -> Lost
     lost
 }
 
-fn note(name: &[u8], count: u64, word: &[u8], what: &[u8]) {
+fn note(console: &Console, name: &[u8], count: u64, word: &[u8], what: &[u8]) {
     if count == 0 {
         return;
     }
@@ -249,23 +259,26 @@ fn note(name: &[u8], count: u64, word: &[u8], what: &[u8]) {
     let a = text_buffer::append(&mut line, 0, b"note: ");
     let b = append_count(&mut line, a, count, word);
     let n = text_buffer::append(&mut line, b, what);
-    say(name, &line[..n]);
+    say(console, name, &line[..n]);
 }
 
-fn note_lost(name: &[u8], lost: Lost) {
+fn note_lost(console: &Console, name: &[u8], lost: Lost) {
     note(
+        console,
         name,
         lost.zero,
         b"frame",
         b" of tracepoint 0: GDB ends its list of frames before one\n",
     );
     note(
+        console,
         name,
         lost.large,
         b"frame",
         b" of a tracepoint from 32768 on: GDB shows its number as negative\n",
     );
     note(
+        console,
         name,
         lost.last,
         b"record",
@@ -274,43 +287,75 @@ fn note_lost(name: &[u8], lost: Lost) {
 }
 
 // ---- the command
-// Whether the whole file was written; if not, the error is printed.
-fn write_named(name: &[u8], buffer: &[u8], ends: &[usize; 8193], frames: usize) -> bool
+// Writes the file that is begun. The answer is 0, or the number of the system's error.
+fn write_draft(
+    console: &Console,
+    draft: Draft,
+    path: &[u8],
+    buffer: &[u8],
+    ends: &[usize; 8193],
+    frames: usize,
+) -> i32
+    requires { frames ≤ 8192 }
+{
+    let mut draft = draft;
+    match write_file(&mut draft, buffer, ends, frames) {
+        Ok(()) => files::finish(&console.rt, draft, path),
+        Err(error) => {
+            files::abandon(&console.rt, draft, path);
+            number_of(&error)
+        }
+    }
+}
+
+// Writes the file of this name. The answer is 0, or the number of the system's error.
+fn write_whole(
+    console: &Console,
+    name: &[u8],
+    buffer: &[u8],
+    ends: &[usize; 8193],
+    frames: usize,
+) -> i32
     requires { frames ≤ 8192 }
 {
     let mut path = io::buffer();
-    let draft = files::begin(name, &mut path);
-    if draft.fd < 0 {
-        print_write_failure(name, draft.errno);
-        return false;
+    match files::begin(&console.rt, name, &mut path) {
+        Ok(draft) => write_draft(console, draft, &path, buffer, ends, frames),
+        Err(errno) => errno,
     }
-    if !write_file(draft.fd, buffer, ends, frames) {
-        let errno = os::errno();
-        files::abandon(draft, &path);
-        print_write_failure(name, errno);
-        return false;
-    }
-    let errno = files::finish(draft, &path);
+}
+
+// Whether the whole file was written; if not, the error is printed.
+fn write_named(
+    console: &Console,
+    name: &[u8],
+    buffer: &[u8],
+    ends: &[usize; 8193],
+    frames: usize,
+) -> bool
+    requires { frames ≤ 8192 }
+{
+    let errno = write_whole(console, name, buffer, ends, frames);
     if errno != 0 {
-        print_write_failure(name, errno);
+        print_write_failure(console, name, errno);
         return false;
     }
     true
 }
 
 // Nothing is written where a frame is refused: the refusal is the answer.
-pub fn export(name: &[u8], buffer: &[u8]) {
+pub fn export(console: &Console, name: &[u8], buffer: &[u8]) {
     let mut ends = [0usize; 8193];
     let frames = find_ends(buffer, buffer.len(), &mut ends);
     let oldest = end_at(&ends, frames);
     if frame_refusal(buffer, oldest) != refusals::NO_SUCH_FRAME {
-        say_frame(name, buffer, oldest, frames as u64);
+        say_frame(console, name, buffer, oldest, frames as u64);
         return;
     }
-    if !write_named(name, buffer, &ends, frames) {
+    if !write_named(console, name, buffer, &ends, frames) {
         return;
     }
-    note_file(name);
-    note_lost(name, count_lost(buffer, &ends, frames));
-    say_completed(name, frames as u64);
+    note_file(console, name);
+    note_lost(console, name, count_lost(buffer, &ends, frames));
+    say_completed(console, name, frames as u64);
 }

@@ -30,7 +30,7 @@ pub fn end_of(buffer: &[u8], used: usize, number: u64) -> usize
 }
 
 // The part of the buffer that the records of a frame take up.
-#[derive(Drop)]
+#[derive(Clone, Copy)]
 pub struct Part {
     pub start: usize,
     pub end: usize,

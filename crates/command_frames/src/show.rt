@@ -4,24 +4,30 @@ ghost use Rattle.reader.specs.Read.{counting};
 ghost use Rattle.command_frames.specs.Refusals.{refusal_in, broken_in};
 
 use crate::places::{end_of, place_behind, record_place, records_of};
-use console_output::{print, print_answer};
+use console_output::{Console, print, print_answer};
 use reader::{CountAnswer, FrameAnswer, RecordAnswer};
 use refusals::Refusal;
 use std::num::wrapping_add_u64;
 
 // ---- records
 // Prints the line of the bytes from `offset` on; false where there is none.
-fn print_dump_line(buffer: &[u8], end: usize, place: usize, offset: usize) -> bool {
+fn print_dump_line(
+    console: &Console,
+    buffer: &[u8],
+    end: usize,
+    place: usize,
+    offset: usize,
+) -> bool {
     let mut line = [0u8; 160];
     let n = frame_lines::dump::append_dump(&mut line, 0, buffer, end, place, offset);
-    print(&line[..n]);
+    print(console, &line[..n]);
     n != 0
 }
 
-fn print_dump(buffer: &[u8], end: usize, place: usize) {
+fn print_dump(console: &Console, buffer: &[u8], end: usize, place: usize) {
     let mut offset = 0;
     while offset < sizes::BUFFER_MOST {
-        if !print_dump_line(buffer, end, place, offset) {
+        if !print_dump_line(console, buffer, end, place, offset) {
             return;
         }
         offset += 16;
@@ -29,35 +35,35 @@ fn print_dump(buffer: &[u8], end: usize, place: usize) {
 }
 
 // The record at `place` of the frame whose records end at `end`, with its number.
-fn print_record(buffer: &[u8], end: usize, place: usize, index: u64) {
+fn print_record(console: &Console, buffer: &[u8], end: usize, place: usize, index: u64) {
     let mut line = [0u8; 160];
     let n = frame_lines::lines::append_record(&mut line, 0, buffer, end, place, index);
-    print(&line[..n]);
-    print_dump(buffer, end, place);
+    print(console, &line[..n]);
+    print_dump(console, buffer, end, place);
 }
 
-fn print_records(buffer: &[u8], start: usize, end: usize) {
+fn print_records(console: &Console, buffer: &[u8], start: usize, end: usize) {
     let mut place = start;
     let mut index: u64 = 0;
     while place < end {
-        print_record(buffer, end, place, index);
+        print_record(console, buffer, end, place, index);
         place = place_behind(buffer, end, place);
         index = wrapping_add_u64(index, 1);
     }
 }
 
 // ---- frames
-fn print_frame_line(buffer: &[u8], end: usize, number: u64) {
+fn print_frame_line(console: &Console, buffer: &[u8], end: usize, number: u64) {
     let mut line = [0u8; 160];
     let n = frame_lines::lines::append_frame(&mut line, 0, buffer, end, number);
-    print_answer(&line[..n]);
+    print_answer(console, &line[..n]);
 }
 
 // The frame that ends at `end`, and its records; or why it is refused.
-pub fn print_frame(buffer: &[u8], end: usize, number: u64) {
-    print_frame_line(buffer, end, number);
+pub fn print_frame(console: &Console, buffer: &[u8], end: usize, number: u64) {
+    print_frame_line(console, buffer, end, number);
     let part = records_of(buffer, end);
-    print_records(buffer, part.start, part.end);
+    print_records(console, buffer, part.start, part.end);
 }
 
 // The refusal of the frame that ends at `end`; 0 where there is none.
@@ -80,34 +86,41 @@ fn refused_in(buffer: &[u8], end: usize) -> u64
     0
 }
 
-fn print_completed(number: u64, word: &[u8], refused: u64) {
+fn print_completed(console: &Console, number: u64, word: &[u8], refused: u64) {
     let mut line = [0u8; 160];
     let n = frame_lines::lines::append_completed(&mut line, 0, number, word, refused);
-    print_answer(&line[..n]);
+    print_answer(console, &line[..n]);
 }
 
 // The walk has come to its end at `place`, with this refusal. A broken trailer ends the list too, since nothing older
 // can be found behind it.
-fn print_end(buffer: &[u8], place: usize, number: u64, refused: u64, refusal: u8) {
+fn print_end(
+    console: &Console,
+    buffer: &[u8],
+    place: usize,
+    number: u64,
+    refused: u64,
+    refusal: u8,
+) {
     if refusal == refusals::NO_SUCH_FRAME {
-        print_completed(number, b"frame", refused);
+        print_completed(console, number, b"frame", refused);
         return;
     }
-    print_frame_line(buffer, place, number);
+    print_frame_line(console, buffer, place, number);
 }
 
-pub fn print_frames(buffer: &[u8], used: usize) {
+pub fn print_frames(console: &Console, buffer: &[u8], used: usize) {
     let mut place = used;
     let mut number: u64 = 0;
     let mut refused: u64 = 0;
     loop {
         match reader::walk(buffer, place) {
             FrameAnswer::Refused(refusal) => {
-                print_end(buffer, place, number, refused, refusal.number);
+                print_end(console, buffer, place, number, refused, refusal.number);
                 return;
             }
             FrameAnswer::Frame(tag, start, length) => {
-                print_frame(buffer, place, number);
+                print_frame(console, buffer, place, number);
                 refused = wrapping_add_u64(refused, refused_in(buffer, place));
                 number = wrapping_add_u64(number, 1);
                 place = start;
@@ -117,36 +130,37 @@ pub fn print_frames(buffer: &[u8], used: usize) {
 }
 
 // ---- one frame, one record, by number
-pub fn print_one_frame(buffer: &[u8], used: usize, number: u64) {
+pub fn print_one_frame(console: &Console, buffer: &[u8], used: usize, number: u64) {
     let end = end_of(buffer, used, number);
-    print_frame(buffer, end, number);
+    print_frame(console, buffer, end, number);
     if frame_refusal(buffer, end) == 0 {
-        print_completed(1, b"frame", 0);
+        print_completed(console, 1, b"frame", 0);
     }
 }
 
-fn print_no_record(refusal: Refusal, number: u64, index: u64) {
+fn print_no_record(console: &Console, refusal: Refusal, number: u64, index: u64) {
     let mut line = [0u8; 160];
     let n = frame_lines::lines::append_no_record(&mut line, 0, refusal, number, index);
-    print_answer(&line[..n]);
+    print_answer(console, &line[..n]);
 }
 
-fn print_record_of(buffer: &[u8], end: usize, index: u64) {
+fn print_record_of(console: &Console, buffer: &[u8], end: usize, index: u64) {
     let part = records_of(buffer, end);
     let behind = part.end;
     print_record(
+        console,
         buffer,
         behind,
         record_place(buffer, part.start, behind, index),
         index,
     );
-    print_completed(1, b"record", 0);
+    print_completed(console, 1, b"record", 0);
 }
 
-pub fn print_one_record(buffer: &[u8], used: usize, number: u64, index: u64) {
+pub fn print_one_record(console: &Console, buffer: &[u8], used: usize, number: u64, index: u64) {
     let end = end_of(buffer, used, number);
     match reader::read(buffer, end, 0, index) {
-        RecordAnswer::Refused(refusal) => print_no_record(refusal, number, index),
-        _ => print_record_of(buffer, end, index),
+        RecordAnswer::Refused(refusal) => print_no_record(console, refusal, number, index),
+        _ => print_record_of(console, buffer, end, index),
     }
 }
