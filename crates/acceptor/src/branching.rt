@@ -405,6 +405,8 @@ pub(crate) fn follow_short(e: &[u8], from: Stop) -> Progress
 
 // The others have tables for 1,024 bytes. No expression is longer, so that the call of itself is never made: it keeps
 // the compiler from placing this function in its caller, whose frame would then have these tables for every expression.
+// A compiler that knows that the call is never made is told not to.
+#[inline(never)]
 pub(crate) fn follow_long(e: &[u8], from: Stop) -> Progress
     requires { (length e.now ≤ expression_most) × Following e.now from.at from.height from.count from.greatest from.sets }
     ensures { Concluded e.now result }
