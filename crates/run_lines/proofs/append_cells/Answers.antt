@@ -9,12 +9,30 @@ use Rattle.run_lines.proofs.append_cells.Goals as goal
 
 pub returns-in-Nothing : goal.returns-in-Nothing
 unfolding cells_text
-returns-in-Nothing c = let a = c.args in record { count = c.append.ensures.count; text = appends_same _ _ (ap (λ (v : Value). cells_text (answer_of v) a.between.now) (sym c.in-Nothing.is)) c.append.ensures.text }
+returns-in-Nothing c =
+    let a = c.args in
+    record {
+      count = c.append.ensures.count;
+      text = appends_same _ _ (ap (λ (v : Value). cells_text (answer_of v) a.between.now) (sym c.in-Nothing.is)) c.append.ensures.text;
+    }
 
 pub returns-in-Top : goal.returns-in-Top
 unfolding cells_text
-returns-in-Top c = let a = c.args in record { count = c.append_value.ensures.count; text = appends_same _ _ (ap (λ (v : Value). cells_text (answer_of v) a.between.now) (sym c.in-Top.is)) (more (one (bytes_of "top ") c.append-a.ensures.text) (value_text _) c.append_value.ensures.text).text }
+returns-in-Top c =
+    let a = c.args in
+    record {
+      count = c.append_value.ensures.count;
+      text = appends_same _ _ (ap (λ (v : Value). cells_text (answer_of v) a.between.now) (sym c.in-Top.is))
+          (more (one (bytes_of "top ") c.append-a.ensures.text) (value_text _) c.append_value.ensures.text).text;
+    }
 
 pub returns-in-TopAndBeneath : goal.returns-in-TopAndBeneath
 unfolding cells_text
-returns-in-TopAndBeneath c = let a = c.args in record { count = c.append_value-in-TopAndBeneath.ensures.count; text = appends_same _ _ (ap (λ (v : Value). cells_text (answer_of v) a.between.now) (sym c.in-TopAndBeneath.is)) (more (more (more (one (bytes_of "top ") c.append-a-in-TopAndBeneath.ensures.text) (value_text _) c.append_value-b.ensures.text) a.between.now c.append-c.ensures.text) (value_text _) c.append_value-in-TopAndBeneath.ensures.text).text }
+returns-in-TopAndBeneath c =
+    let a = c.args in
+    record {
+      count = c.append_value-in-TopAndBeneath.ensures.count;
+      text = appends_same _ _ (ap (λ (v : Value). cells_text (answer_of v) a.between.now) (sym c.in-TopAndBeneath.is))
+          (more (more (more (one (bytes_of "top ") c.append-a-in-TopAndBeneath.ensures.text) (value_text _) c.append_value-b.ensures.text)
+          a.between.now c.append-c.ensures.text) (value_text _) c.append_value-in-TopAndBeneath.ensures.text).text;
+    }

@@ -6,4 +6,10 @@ use Rattle.run_lines.proofs.append_completed_by.Goals as goal
 
 pub returns : goal.returns
 unfolding completed_by
-returns c = let a = c.args in record { count = c.append.ensures.count; text = (more (more (more (one (bytes_of "completed") c.append-a.ensures.text) (steps_text a.steps) c.append_steps-b.ensures.text) (cells_text (answer_of a.value) a.between.now) c.append_cells-c.ensures.text) (bytes_of "\n") c.append.ensures.text).text }
+returns c =
+    let a = c.args in
+    record {
+      count = c.append.ensures.count;
+      text = (more (more (more (one (bytes_of "completed") c.append-a.ensures.text) (steps_text a.steps) c.append_steps-b.ensures.text)
+          (cells_text (answer_of a.value) a.between.now) c.append_cells-c.ensures.text) (bytes_of "\n") c.append.ensures.text).text;
+    }

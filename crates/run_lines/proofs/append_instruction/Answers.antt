@@ -6,10 +6,30 @@ use Rattle.run_lines.proofs.Outcomes.{line_of_none, line_no_whole, line_of_some}
 use Rattle.run_lines.proofs.append_instruction.Goals as goal
 
 pub returns-then-not-is_of_instruction : goal.returns-then-not-is_of_instruction
-returns-then-not-is_of_instruction c = let a = c.args in record { count = c.append.ensures.count; text = appends_same _ _ (line_of_none a.code.now a.refusal (sym c.is_of_instruction.ensures ∙ c.if-not-is_of_instruction.true)) c.append.ensures.text }
+returns-then-not-is_of_instruction c =
+    let a = c.args in
+    record {
+      count = c.append.ensures.count;
+      text = appends_same _ _ (line_of_none a.code.now a.refusal (sym c.is_of_instruction.ensures ∙ c.if-not-is_of_instruction.true))
+          c.append.ensures.text;
+    }
 
 pub returns-then-not-is_instruction : goal.returns-then-not-is_instruction
-returns-then-not-is_instruction c = let a = c.args in record { count = c.append-then-not-is_instruction.ensures.count; text = appends_same _ _ (line_no_whole a.code.now a.refusal (sym c.is_of_instruction.ensures ∙ c.if-not-is_of_instruction.false) (sym c.is_instruction.ensures ∙ c.if-not-is_instruction.true)) c.append-then-not-is_instruction.ensures.text }
+returns-then-not-is_instruction c =
+    let a = c.args in
+    record {
+      count = c.append-then-not-is_instruction.ensures.count;
+      text = appends_same _ _ (line_no_whole a.code.now a.refusal (sym c.is_of_instruction.ensures ∙ c.if-not-is_of_instruction.false)
+          (sym c.is_instruction.ensures ∙ c.if-not-is_instruction.true)) c.append-then-not-is_instruction.ensures.text;
+    }
 
 pub returns : goal.returns
-returns c = let a = c.args in record { count = c.append-2.ensures.count; text = appends_same _ _ (line_of_some a.code.now a.refusal (sym c.is_of_instruction.ensures ∙ c.if-not-is_of_instruction.false) (sym c.is_instruction.ensures ∙ c.if-not-is_instruction.false)) (more (more (one (bytes_of "  instruction: ") c.append-a.ensures.text) (plain_at a.code.now a.refusal.offset) c.append_plain-b.ensures) (bytes_of "\n") c.append-2.ensures.text).text }
+returns c =
+    let a = c.args in
+    record {
+      count = c.append-2.ensures.count;
+      text = appends_same _ _ (line_of_some a.code.now a.refusal (sym c.is_of_instruction.ensures ∙ c.if-not-is_of_instruction.false)
+          (sym c.is_instruction.ensures ∙ c.if-not-is_instruction.false))
+          (more (more (one (bytes_of "  instruction: ") c.append-a.ensures.text) (plain_at a.code.now a.refusal.offset) c.append_plain-b.ensures)
+          (bytes_of "\n") c.append-2.ensures.text).text;
+    }

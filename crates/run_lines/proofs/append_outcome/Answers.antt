@@ -6,8 +6,18 @@ use Rattle.run_lines.proofs.append_outcome.Goals as goal
 
 pub returns-in-Completed : goal.returns-in-Completed
 unfolding outcome_text
-returns-in-Completed c = let a = c.args in record { count = c.append_completed.ensures.count; text = appends_same _ _ (ap (outcome_text a.code.now) (ap returned_by (sym c.in-Completed.is))) c.append_completed.ensures.text }
+returns-in-Completed c =
+    let a = c.args in
+    record {
+      count = c.append_completed.ensures.count;
+      text = appends_same _ _ (ap (outcome_text a.code.now) (ap returned_by (sym c.in-Completed.is))) c.append_completed.ensures.text;
+    }
 
 pub returns-in-Refused : goal.returns-in-Refused
 unfolding outcome_text
-returns-in-Refused c = let a = c.args in record { count = c.append_refused.ensures.count; text = appends_same _ _ (ap (outcome_text a.code.now) (ap returned_by (sym c.in-Refused.is))) c.append_refused.ensures.text }
+returns-in-Refused c =
+    let a = c.args in
+    record {
+      count = c.append_refused.ensures.count;
+      text = appends_same _ _ (ap (outcome_text a.code.now) (ap returned_by (sym c.in-Refused.is))) c.append_refused.ensures.text;
+    }

@@ -6,4 +6,10 @@ use Rattle.run_lines.proofs.append_steps.Goals as goal
 
 pub returns : goal.returns
 unfolding steps_text
-returns c = let a = c.args in record { count = c.append.ensures.count; text = (more (more (one (bytes_of " after ") c.append-a.ensures.text) (count_text a.steps (bytes_of "step")) c.append_count-b.ensures.text) (bytes_of ": ") c.append.ensures.text).text }
+returns c =
+    let a = c.args in
+    record {
+      count = c.append.ensures.count;
+      text = (more (more (one (bytes_of " after ") c.append-a.ensures.text) (count_text a.steps (bytes_of "step")) c.append_count-b.ensures.text)
+          (bytes_of ": ") c.append.ensures.text).text;
+    }

@@ -7,4 +7,9 @@ use Rattle.step_lines.proofs.append_cell.Goals as goal
 pub returns : goal.returns
 unfolding cell_text
 returns c =
-    let x = c.args.cell in record { count = c.append_reading.ensures.count; text = (more (more (one (bytes_of " ") c.append-a.ensures.text) (decimal x) (appends_number x c.append_number-b.ensures.text)) (reading_text x) c.append_reading.ensures.text).text }
+    let x = c.args.cell in
+    record {
+      count = c.append_reading.ensures.count;
+      text = (more (more (one (bytes_of " ") c.append-a.ensures.text) (decimal x) (appends_number x c.append_number-b.ensures.text)) (reading_text x)
+          c.append_reading.ensures.text).text;
+    }

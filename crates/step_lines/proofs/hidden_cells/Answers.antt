@@ -22,8 +22,11 @@ loop-shown-smaller c = omega arith
 
 pub loop-shown-preserved : goal.loop-shown-preserved
 loop-shown-preserved c =
-    let a = c.args in
-    (omega (arith, c.loop-shown.invariant.0), c.loop-shown.invariant.1 ∙ wide a.step a.code.now a.offset a.cells.now c.loop-shown.shown c.loop-shown-test.true (sym c.is_narrow.ensures ∙ c.if-is_narrow.false))
+    let a = c.args in (
+      omega (arith, c.loop-shown.invariant.0),
+      c.loop-shown.invariant.1 ∙ wide a.step a.code.now a.offset a.cells.now c.loop-shown.shown
+          c.loop-shown-test.true (sym c.is_narrow.ensures ∙ c.if-is_narrow.false),
+    )
 
 pub returns : goal.returns
 returns c =

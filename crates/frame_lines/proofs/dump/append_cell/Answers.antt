@@ -9,4 +9,7 @@ pub returns-then-bytes-i : goal.returns-then-bytes-i
 returns-then-bytes-i c = let a = c.args in appends_same _ _ (cell_none a.bytes.now a.i c.if-bytes-i.true) c.append.ensures.text
 
 pub returns : goal.returns
-returns c = let a = c.args in appends_same _ _ (cell_some a.bytes.now a.i (omega (arith, c.if-bytes-i.false))) (more (one (bytes_of " ") c.append-a.ensures.text) (pair_of (get_or a.bytes.now a.i 0)) c.append_byte.ensures.text).text
+returns c =
+    let a = c.args in
+    appends_same _ _ (cell_some a.bytes.now a.i (omega (arith, c.if-bytes-i.false)))
+    (more (one (bytes_of " ") c.append-a.ensures.text) (pair_of (get_or a.bytes.now a.i 0)) c.append_byte.ensures.text).text

@@ -6,7 +6,24 @@ use Rattle.frame_lines.proofs.Completing.{completed_all, completed_some}
 use Rattle.frame_lines.proofs.lines.append_completed.Goals as goal
 
 pub returns-then-refused-eq0 : goal.returns-then-refused-eq0
-returns-then-refused-eq0 c = let a = c.args in let w = a.word.now in record { count = c.append.ensures.count; text = appends_same _ _ (completed_all a.number w a.refused c.if-refused-eq0.true) (more (more (one (bytes_of "completed: ") c.append-a.ensures.text) (count_text a.number w) c.append_count-b.ensures.text) (bytes_of "\n") c.append.ensures.text).text }
+returns-then-refused-eq0 c =
+    let a = c.args in
+    let w = a.word.now in
+    record {
+      count = c.append.ensures.count;
+      text = appends_same _ _ (completed_all a.number w a.refused c.if-refused-eq0.true)
+          (more (more (one (bytes_of "completed: ") c.append-a.ensures.text) (count_text a.number w) c.append_count-b.ensures.text) (bytes_of "\n")
+          c.append.ensures.text).text;
+    }
 
 pub returns : goal.returns
-returns c = let a = c.args in let w = a.word.now in record { count = c.append-2.ensures.count; text = appends_same _ _ (completed_some a.number w a.refused c.if-refused-eq0.false) (more (more (more (more (one (bytes_of "completed: ") c.append-a.ensures.text) (count_text a.number w) c.append_count-b.ensures.text) (bytes_of ", ") c.append-c.ensures.text) (decimal a.refused) (appends_number a.refused c.append_number-d.ensures.text)) (bytes_of " of them refused\n") c.append-2.ensures.text).text }
+returns c =
+    let a = c.args in
+    let w = a.word.now in
+    record {
+      count = c.append-2.ensures.count;
+      text = appends_same _ _ (completed_some a.number w a.refused c.if-refused-eq0.false)
+          (more (more (more (more (one (bytes_of "completed: ") c.append-a.ensures.text) (count_text a.number w) c.append_count-b.ensures.text)
+          (bytes_of ", ") c.append-c.ensures.text) (decimal a.refused) (appends_number a.refused c.append_number-d.ensures.text))
+          (bytes_of " of them refused\n") c.append-2.ensures.text).text;
+    }

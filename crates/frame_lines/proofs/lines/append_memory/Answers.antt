@@ -18,4 +18,12 @@ shape_of-out c =
 
 pub returns : goal.returns
 unfolding memory_text
-returns c = let a = c.args in record { count = c.append.ensures.count; text = (more (more (more (more (more (more (one (bytes_of "  record ") c.append-a.ensures.text) (decimal a.index) (appends_number a.index c.append_number-b.ensures.text)) (bytes_of ": memory at ") c.append-c.ensures.text) (hex_text a.address) c.append_address-d.ensures.text) (bytes_of ", ") c.append-e.ensures.text) (count_text a.length (bytes_of "byte")) c.append_count-f.ensures.text) (bytes_of "\n") c.append.ensures.text).text }
+returns c =
+    let a = c.args in
+    record {
+      count = c.append.ensures.count;
+      text = (more (more (more (more (more (more (one (bytes_of "  record ") c.append-a.ensures.text) (decimal a.index)
+          (appends_number a.index c.append_number-b.ensures.text)) (bytes_of ": memory at ") c.append-c.ensures.text) (hex_text a.address)
+          c.append_address-d.ensures.text) (bytes_of ", ") c.append-e.ensures.text) (count_text a.length (bytes_of "byte"))
+          c.append_count-f.ensures.text) (bytes_of "\n") c.append.ensures.text).text;
+    }

@@ -6,4 +6,11 @@ use Rattle.frame_lines.proofs.lines.append_no_frame.Goals as goal
 
 pub returns : goal.returns
 unfolding no_frame_text
-returns c = let a = c.args in record { count = c.append.ensures.count; text = (more (more (more (one (frame_refused_text a.refusal) c.append_refused-a.ensures.text) (bytes_of "\n  asked: frame ") c.append-b.ensures.text) (decimal a.number) (appends_number a.number c.append_number-c.ensures.text)) (bytes_of "\n") c.append.ensures.text).text }
+returns c =
+    let a = c.args in
+    record {
+      count = c.append.ensures.count;
+      text = (more (more (more (one (frame_refused_text a.refusal) c.append_refused-a.ensures.text) (bytes_of "\n  asked: frame ")
+          c.append-b.ensures.text) (decimal a.number) (appends_number a.number c.append_number-c.ensures.text)) (bytes_of "\n")
+          c.append.ensures.text).text;
+    }

@@ -6,4 +6,12 @@ use Rattle.frame_lines.proofs.lines.append_no_record.Goals as goal
 
 pub returns : goal.returns
 unfolding no_record_text
-returns c = let a = c.args in record { count = c.append.ensures.count; text = (more (more (more (more (more (one (frame_refused_text a.refusal) c.append_refused-a.ensures.text) (bytes_of "\n  asked: frame ") c.append-b.ensures.text) (decimal a.number) (appends_number a.number c.append_number-c.ensures.text)) (bytes_of ", record ") c.append-d.ensures.text) (decimal a.index) (appends_number a.index c.append_number-e.ensures.text)) (bytes_of "\n") c.append.ensures.text).text }
+returns c =
+    let a = c.args in
+    record {
+      count = c.append.ensures.count;
+      text = (more (more (more (more (more (one (frame_refused_text a.refusal) c.append_refused-a.ensures.text) (bytes_of "\n  asked: frame ")
+          c.append-b.ensures.text) (decimal a.number) (appends_number a.number c.append_number-c.ensures.text)) (bytes_of ", record ")
+          c.append-d.ensures.text) (decimal a.index) (appends_number a.index c.append_number-e.ensures.text)) (bytes_of "\n")
+          c.append.ensures.text).text;
+    }

@@ -6,4 +6,12 @@ use Rattle.tracefile.proofs.Filing.{memory_parts}
 use Rattle.tracefile.proofs.body.append_memory.Goals as goal
 
 pub returns : goal.returns
-returns c = let a = c.args in let l = a.bytes.now in record { count = c.append.ensures.count; text = appends_same _ _ (memory_parts a.address l) (more (more (more (one (bytes_of "M") c.append-a.ensures.text) (little_bytes 8 a.address) c.append_little-b.ensures.text) (little_bytes 2 (length l)) c.append_little-c.ensures.text) (l) c.append.ensures.text).text }
+returns c =
+    let a = c.args in
+    let l = a.bytes.now in
+    record {
+      count = c.append.ensures.count;
+      text = appends_same _ _ (memory_parts a.address l)
+          (more (more (more (one (bytes_of "M") c.append-a.ensures.text) (little_bytes 8 a.address) c.append_little-b.ensures.text)
+          (little_bytes 2 (length l)) c.append_little-c.ensures.text) (l) c.append.ensures.text).text;
+    }

@@ -17,8 +17,20 @@ returns-in-Refused c = let a = c.args in record { count = c.append.ensures.count
 
 pub returns-in-Variable : goal.returns-in-Variable
 unfolding record_bytes
-returns-in-Variable c = let a = c.args in record { count = c.append_variable.ensures.count; text = appends_same _ _ (next_variable c.in-Variable.value c.in-Variable.variable _ (search rules) c.wrapping_add_u64-number.ensures.value ∙ ap (record_bytes a.buffer.now) c.in-Variable.ensures) c.append_variable.ensures.text }
+returns-in-Variable c =
+    let a = c.args in
+    record {
+      count = c.append_variable.ensures.count;
+      text = appends_same _ _ (next_variable c.in-Variable.value c.in-Variable.variable _ (search rules) c.wrapping_add_u64-number.ensures.value ∙ ap
+          (record_bytes a.buffer.now) c.in-Variable.ensures) c.append_variable.ensures.text;
+    }
 
 pub returns-in-Memory : goal.returns-in-Memory
 unfolding record_bytes
-returns-in-Memory c = let a = c.args in record { count = c.append_memory.ensures.count; text = appends_same _ _ (bytes_part a.buffer.now c.in-Memory.address c.in-Memory.length c.in-Memory.bytes ∙ ap (record_bytes a.buffer.now) c.in-Memory.ensures) c.append_memory.ensures.text }
+returns-in-Memory c =
+    let a = c.args in
+    record {
+      count = c.append_memory.ensures.count;
+      text = appends_same _ _ (bytes_part a.buffer.now c.in-Memory.address c.in-Memory.length c.in-Memory.bytes ∙ ap (record_bytes a.buffer.now)
+          c.in-Memory.ensures) c.append_memory.ensures.text;
+    }

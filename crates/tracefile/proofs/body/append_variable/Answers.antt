@@ -5,4 +5,11 @@ use Rattle.tracefile.proofs.Filing.{variable_parts}
 use Rattle.tracefile.proofs.body.append_variable.Goals as goal
 
 pub returns : goal.returns
-returns c = let a = c.args in record { count = c.append_little.ensures.count; text = appends_same _ _ (variable_parts a.number a.value) (more (more (one (bytes_of "V") c.append-a.ensures.text) (little_bytes 4 a.number) c.append_little-b.ensures.text) (little_bytes 8 a.value) c.append_little.ensures.text).text }
+returns c =
+    let a = c.args in
+    record {
+      count = c.append_little.ensures.count;
+      text = appends_same _ _ (variable_parts a.number a.value)
+          (more (more (one (bytes_of "V") c.append-a.ensures.text) (little_bytes 4 a.number) c.append_little-b.ensures.text) (little_bytes 8 a.value)
+          c.append_little.ensures.text).text;
+    }

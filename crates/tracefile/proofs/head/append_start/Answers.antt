@@ -7,4 +7,11 @@ use Rattle.tracefile.proofs.head.append_start.Goals as goal
 
 pub returns : goal.returns
 unfolding start_text
-returns c = let a = c.args in record { count = c.append.ensures.count; text = (more (more (more (more (more (one (0x7f ∷ []) c.append-a.ensures.text) (bytes_of "TRACE0\nR 1\nstatus 0;tunknown:0;tframes:") c.append-b.ensures.text) (hex_text a.frames) c.append_address-c.ensures.text) (bytes_of ":tcreated:") c.append-d.ensures.text) (hex_text a.frames) c.append_address-e.ensures.text) (bytes_of "\n") c.append.ensures.text).text }
+returns c =
+    let a = c.args in
+    record {
+      count = c.append.ensures.count;
+      text = (more (more (more (more (more (one (0x7f ∷ []) c.append-a.ensures.text) (bytes_of "TRACE0\nR 1\nstatus 0;tunknown:0;tframes:")
+          c.append-b.ensures.text) (hex_text a.frames) c.append_address-c.ensures.text) (bytes_of ":tcreated:") c.append-d.ensures.text)
+          (hex_text a.frames) c.append_address-e.ensures.text) (bytes_of "\n") c.append.ensures.text).text;
+    }

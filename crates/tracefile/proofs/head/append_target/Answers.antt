@@ -5,4 +5,9 @@ use Rattle.tracefile.proofs.head.append_target.Goals as goal
 
 pub returns : goal.returns
 unfolding target_text
-returns c = record { count = c.append.ensures.count; text = (more (one (bytes_of "tdesc <?xml version='1.0'?>") c.append-a.ensures.text) (bytes_of "<target><architecture>i386:x86-64</architecture></target>\n\n") c.append.ensures.text).text }
+returns c =
+    record {
+      count = c.append.ensures.count;
+      text = (more (one (bytes_of "tdesc <?xml version='1.0'?>") c.append-a.ensures.text)
+          (bytes_of "<target><architecture>i386:x86-64</architecture></target>\n\n") c.append.ensures.text).text;
+    }

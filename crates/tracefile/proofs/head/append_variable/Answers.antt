@@ -9,4 +9,12 @@ use Rattle.tracefile.proofs.head.append_variable.Goals as goal
 
 pub returns : goal.returns
 unfolding variable_text
-returns c = let a = c.args in record { count = c.append.ensures.count; text = (more (more (more (more (one (bytes_of "tsv ") c.append-a.ensures.text) (hex_text (a.number + 1)) (appends_same _ _ (next_hex a.number _ c.ranges.number.fits c.wrapping_add_u64-next.ensures.value) c.append_address-b.ensures.text)) (bytes_of ":0:0:") c.append-c.ensures.text) (hex_of (name_text a.number)) c.append_name-d.ensures) (bytes_of "\n") c.append.ensures.text).text }
+returns c =
+    let a = c.args in
+    record {
+      count = c.append.ensures.count;
+      text = (more (more (more (more (one (bytes_of "tsv ") c.append-a.ensures.text) (hex_text (a.number + 1))
+          (appends_same _ _ (next_hex a.number _ c.ranges.number.fits c.wrapping_add_u64-next.ensures.value) c.append_address-b.ensures.text))
+          (bytes_of ":0:0:") c.append-c.ensures.text) (hex_of (name_text a.number)) c.append_name-d.ensures) (bytes_of "\n")
+          c.append.ensures.text).text;
+    }

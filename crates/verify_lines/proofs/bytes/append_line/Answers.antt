@@ -8,4 +8,8 @@ pub returns : goal.returns
 unfolding bytes_line
 returns c =
     let a = c.args in
-    record { count = c.append.ensures.count; text = (more (more (one (bytes_of "bytes ") c.append-a.ensures.text) (hex_of a.bytes.now) c.encode-b.ensures.text) (bytes_of "\n") c.append.ensures.text).text }
+    record {
+      count = c.append.ensures.count;
+      text = (more (more (one (bytes_of "bytes ") c.append-a.ensures.text) (hex_of a.bytes.now) c.encode-b.ensures.text) (bytes_of "\n")
+          c.append.ensures.text).text;
+    }

@@ -29,8 +29,13 @@ loop-k-preserved c =
     let e = c.args.code.now in
     let k = c.loop-k.k in
     let end = c.line_end-end.result in
-    let p = c.append_line-n in
-    (going_part c.loop-k.invariant.0 (bytes_line (take (end - k) (drop k e))) (bytes_text (drop end e)) (bytes_part e k c.loop-k-test.true end c.line_end-end.ensures) p.new.out p.result p.auto.out p.ensures.text, p.ensures.count, omega (arith, c.line_end-end.ensures))
+    let p = c.append_line-n in (
+      going_part c.loop-k.invariant.0 (bytes_line (take (end - k) (drop k e))) (bytes_text (drop end e))
+          (bytes_part e k c.loop-k-test.true end c.line_end-end.ensures) p.new.out p.result p.auto.out p.ensures.text,
+      p.ensures.count,
+      omega
+          (arith, c.line_end-end.ensures),
+    )
 
 pub shape_of-out : goal.shape_of-out
 shape_of-out c = c.loop-k.invariant.0.size

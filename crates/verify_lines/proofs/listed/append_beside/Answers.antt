@@ -11,4 +11,9 @@ pub returns : goal.returns
 returns c =
     let a = c.args in
     let l = a.line.now in
-    record { count = c.append_height.ensures.count; text = appends_same _ _ (beside_parts l a.height (length l - 1) refl) (more (more (one (take (length l - 1 - 0) l) c.append-a.ensures.text) (gap_text (length l - 1)) c.append_gap-b.ensures.text) (height_text a.height) c.append_height.ensures.text).text }
+    record {
+      count = c.append_height.ensures.count;
+      text = appends_same _ _ (beside_parts l a.height (length l - 1) refl)
+          (more (more (one (take (length l - 1 - 0) l) c.append-a.ensures.text) (gap_text (length l - 1)) c.append_gap-b.ensures.text)
+          (height_text a.height) c.append_height.ensures.text).text;
+    }

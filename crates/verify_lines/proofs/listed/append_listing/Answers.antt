@@ -34,7 +34,12 @@ loop-out-preserved c =
     let hs = c.args.heights.now in
     let k = c.loop-out.k in
     let p = c.append_row-n in
-    rw c.look_up.ensures.operands_is (going_part c.loop-out.invariant.0 (row_text e c.args.is_accepted (get_or hs k 0) k) (rows_from e hs c.args.is_accepted (next e k)) (rows_next e hs c.args.is_accepted k (sym c.is_row.ensures ∙ c.loop-out-test.true)) p.new.out p.result p.auto.out p.ensures.text, p.ensures.count)
+    rw c.look_up.ensures.operands_is (
+      going_part c.loop-out.invariant.0 (row_text e c.args.is_accepted (get_or hs k 0) k)
+          (rows_from e hs c.args.is_accepted (next e k)) (rows_next e hs c.args.is_accepted k (sym c.is_row.ensures ∙ c.loop-out-test.true)) p.new.out
+          p.result p.auto.out p.ensures.text,
+      p.ensures.count,
+    )
 
 pub shape_of-out : goal.shape_of-out
 shape_of-out c = c.loop-out.invariant.0.size

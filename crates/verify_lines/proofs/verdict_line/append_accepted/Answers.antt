@@ -18,4 +18,12 @@ shape_of-out c =
 
 pub returns : goal.returns
 unfolding accepted_text
-returns c = let a = c.args in record { count = c.append.ensures.count; text = (more (more (more (more (more (more (one (bytes_of "accepted: ") c.append-a.ensures.text) (count_text a.count (bytes_of "instruction")) c.append_count-b.ensures.text) (bytes_of ", greatest height ") c.append-c.ensures.text) (decimal a.height) (appends_number a.height c.append_number-d.ensures.text)) (bytes_of ", longest walk ") c.append-e.ensures.text) (decimal a.walk) (appends_number a.walk c.append_number-f.ensures.text)) (bytes_of "\n") c.append.ensures.text).text }
+returns c =
+    let a = c.args in
+    record {
+      count = c.append.ensures.count;
+      text = (more (more (more (more (more (more (one (bytes_of "accepted: ") c.append-a.ensures.text) (count_text a.count (bytes_of "instruction"))
+          c.append_count-b.ensures.text) (bytes_of ", greatest height ") c.append-c.ensures.text) (decimal a.height)
+          (appends_number a.height c.append_number-d.ensures.text)) (bytes_of ", longest walk ") c.append-e.ensures.text) (decimal a.walk)
+          (appends_number a.walk c.append_number-f.ensures.text)) (bytes_of "\n") c.append.ensures.text).text;
+    }

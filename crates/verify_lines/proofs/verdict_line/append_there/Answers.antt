@@ -9,7 +9,21 @@ pub returns-then-code-offset : goal.returns-then-code-offset
 returns-then-code-offset c = let a = c.args in record { count = c.append.ensures.count; text = appends_same _ _ (there_none a.code.now a.offset c.if-code-offset.true) c.append.ensures.text }
 
 pub returns-then-not-is_instruction : goal.returns-then-not-is_instruction
-returns-then-not-is_instruction c = let a = c.args in record { count = c.append_opcode.ensures.count; text = appends_same _ _ (there_opcode a.code.now a.offset c.if-code-offset.false (sym c.is_instruction.ensures ∙ c.if-not-is_instruction.true)) c.append_opcode.ensures.text }
+returns-then-not-is_instruction c =
+    let a = c.args in
+    record {
+      count = c.append_opcode.ensures.count;
+      text = appends_same _ _ (there_opcode a.code.now a.offset c.if-code-offset.false (sym c.is_instruction.ensures ∙ c.if-not-is_instruction.true))
+          c.append_opcode.ensures.text;
+    }
 
 pub returns : goal.returns
-returns c = let a = c.args in record { count = c.append-2.ensures.count; text = appends_same _ _ (there_instruction a.code.now a.offset c.if-code-offset.false (sym c.is_instruction.ensures ∙ c.if-not-is_instruction.false)) (more (more (one (bytes_of " (") c.append-a.ensures.text) (plain_at a.code.now a.offset) c.append_plain-b.ensures) (bytes_of ")") c.append-2.ensures.text).text }
+returns c =
+    let a = c.args in
+    record {
+      count = c.append-2.ensures.count;
+      text = appends_same _ _ (there_instruction a.code.now a.offset c.if-code-offset.false
+          (sym c.is_instruction.ensures ∙ c.if-not-is_instruction.false))
+          (more (more (one (bytes_of " (") c.append-a.ensures.text) (plain_at a.code.now a.offset) c.append_plain-b.ensures) (bytes_of ")")
+          c.append-2.ensures.text).text;
+    }
