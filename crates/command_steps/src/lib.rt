@@ -1,24 +1,32 @@
 // The listing of a run: where it stands before each of its steps.
 #![tactic(auto)]
 
-use console_output::print;
+use console_output::{Console, is_unread, print};
 use encoding::put_bytes;
 use isa::Stack;
 use standing::{Stood, stand};
 use step_lines::append_step;
 
 // `stand` ensures that there are so many cells; the test is for the part that is lent.
-fn print_line(step: u64, code: &[u8], offset: usize, cells: &[u64], height: usize) {
+fn print_line(
+    console: &Console,
+    step: u64,
+    code: &[u8],
+    offset: usize,
+    cells: &[u64],
+    height: usize,
+) {
     if height <= cells.len() {
         let mut line = [0u8; 128];
         let end = append_step(&mut line, 0, step, code, offset, &cells[..height]);
-        print(&line[..end]);
+        print(console, &line[..end]);
     }
 }
 
 // Prints where the run stands after so many steps, and answers whether it still stood. Variables and buffer stay as
 // they are: the steps are done on copies.
 fn print_step<'a>(
+    console: &Console,
     code: &[u8],
     registers: &[u64],
     image_first: u64,
@@ -54,14 +62,16 @@ fn print_step<'a>(
     match stood {
         Stood::Over => false,
         Stood::At(offset, height) => {
-            print_line(step, code, offset, &cells, height);
+            print_line(console, step, code, offset, &cells, height);
             true
         }
     }
 }
 
-// Prints a line for each step of the run, the last of them that at which it ends: an end, or a step that is refused.
+// Prints a line for each step of the run, the last of them that at which it ends: an end, or a step that is refused. It
+// ends where nobody reads them any more.
 pub fn print_steps<'a>(
+    console: &Console,
     code: &[u8],
     registers: &[u64],
     image_first: u64,
@@ -76,6 +86,7 @@ pub fn print_steps<'a>(
     let mut step = 0;
     while step < allowance {
         if !print_step(
+            console,
             code,
             registers,
             image_first,
@@ -86,7 +97,8 @@ pub fn print_steps<'a>(
             buffer,
             used,
             step,
-        ) {
+        ) || is_unread(console)
+        {
             return;
         }
         step += 1;

@@ -3,10 +3,10 @@ ghost use Rattle.std.specs.Prelude.{◌≡◌, length};
 ghost use Rattle.io.specs.Counts.{IsPrefixLen};
 
 use crate::words::front;
-use console_output::{print, print_answer};
+use console_output::{Console, print, print_answer};
 
 // What is asked for beside the verdict: a listing; and whether the expression is meant to collect.
-#[derive(Drop)]
+#[derive(Clone, Copy)]
 pub struct Asked {
     pub is_listed: bool,
     pub is_collecting: bool,
@@ -27,10 +27,10 @@ fn is_accepted(text: &[u8]) -> bool {
 }
 
 // Whether the expression was accepted.
-fn print_verdict(code: &[u8], is_listed: bool) -> bool {
+fn print_verdict(console: &Console, code: &[u8], is_listed: bool) -> bool {
     let mut text = text_buffer();
     let n = verify_lines::listed::append_answer(&mut text, 0, code, is_listed);
-    print_answer(&text[..n]);
+    print_answer(console, &text[..n]);
     is_accepted(&text[..n])
 }
 
@@ -50,16 +50,16 @@ fn append_rest(out: &mut [u8], at: usize, code: &[u8], is_collecting: bool) -> u
     collection_notes::append_nothing(out, at)
 }
 
-fn print_notes<'a>(code: &'a [u8], mask: &'a [u8], is_collecting: bool) {
+fn print_notes<'a>(console: &Console, code: &'a [u8], mask: &'a [u8], is_collecting: bool) {
     let mut text = io::large_buffer();
     let n = collection_notes::append_registers(&mut text, 0, mask, code, is_collecting);
     let m = append_rest(&mut text, n, code, is_collecting);
-    print(front(&text, m));
+    print(console, front(&text, m));
 }
 
 // The mask is GDB's, of the registers that it wants; empty where there is none.
-pub fn answer<'a>(code: &'a [u8], mask: &'a [u8], asked: Asked) {
-    if print_verdict(code, asked.is_listed) {
-        print_notes(code, mask, asked.is_collecting);
+pub fn answer<'a>(console: &Console, code: &'a [u8], mask: &'a [u8], asked: Asked) {
+    if print_verdict(console, code, asked.is_listed) {
+        print_notes(console, code, mask, asked.is_collecting);
     }
 }
