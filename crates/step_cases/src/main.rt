@@ -2,41 +2,56 @@
 #![tactic(auto)]
 
 use command_steps::print_steps;
-use console_output::print;
+use console_output::{Console, print};
 
 // On the working memory 41 00 42 at 4096, a buffer of 64 bytes and one register.
-fn list(name: &[u8], code: &[u8], allowance: u64) {
-    print(name);
+fn list(console: &Console, name: &[u8], code: &[u8], allowance: u64) {
+    print(console, name);
     let registers = [7u64; 1];
     let work = [0x41u8, 0x00, 0x42];
     let variables = [0u64; sizes::VARIABLE_COUNT];
     let buffer = [0u8; 64];
     print_steps(
-        code, &registers, 0, b"", 4096, &work, &variables, &buffer, 0, allowance,
+        console, code, &registers, 0, b"", 4096, &work, &variables, &buffer, 0, allowance,
     );
 }
 
-fn main() {
-    list(b"a sum\n", b"\x22\x05\x22\x03\x02\x27", 1024);
+fn main(rt: HostRuntime) {
+    let console = &Console::new(rt);
+    list(console, b"a sum\n", b"\x22\x05\x22\x03\x02\x27", 1024);
     list(
+        console,
         b"a jump that is taken\n",
         b"\x22\x01\x20\x00\x08\x22\x07\x27\x27",
         1024,
     );
-    list(b"a division by zero\n", b"\x22\x01\x22\x00\x05\x27", 1024);
     list(
+        console,
+        b"a division by zero\n",
+        b"\x22\x01\x22\x00\x05\x27",
+        1024,
+    );
+    list(
+        console,
         b"memory, a register and a variable\n",
         b"\x23\x10\x00\x0d\x02\x17\x26\x00\x00\x2d\x00\x03\x27",
         1024,
     );
     list(
+        console,
         b"cells that have two readings\n",
         b"\x23\x10\x00\x25\x7f\xff\xff\xff\xff\xff\xff\xff\x22\x01\x02\x27",
         1024,
     );
-    list(b"an allowance of 2\n", b"\x22\x05\x22\x03\x02\x27", 2);
-    list(b"a refused expression\n", b"\x22\x01", 1024);
     list(
+        console,
+        b"an allowance of 2\n",
+        b"\x22\x05\x22\x03\x02\x27",
+        2,
+    );
+    list(console, b"a refused expression\n", b"\x22\x01", 1024);
+    list(
+        console,
         b"more cells than a line has room for\n",
         b"\x25\xff\xff\xff\xff\xff\xff\xff\xff\x28\x28\x28\x28\x27",
         1024,
