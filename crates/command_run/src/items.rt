@@ -5,6 +5,7 @@ use crate::outcome::{print_buffer, print_discarded, print_outcome, print_replace
 use crate::sources::{Got, take_file, take_hex};
 use crate::wrong::{part, print_failed, print_fault, print_wrong};
 use command_steps::print_steps;
+use console_output::Console;
 use files::{identity, is_standard, save};
 use runner::Outcome;
 use scenario::{BUFFER, IMAGE, Item, LOAD, RUN, SAVE};
@@ -18,7 +19,7 @@ use std::num::wrapping_add_u64;
 use text_buffer::{append, append_number};
 
 // Where bytes are: a place in the line, or a file whose name stands there.
-#[derive(Drop)]
+#[derive(Clone, Copy)]
 struct Source {
     start: usize,
     end: usize,
@@ -26,6 +27,7 @@ struct Source {
 }
 
 fn take_source(
+    console: &Console,
     name: &[u8],
     number: u64,
     line: &[u8],
@@ -34,22 +36,44 @@ fn take_source(
     inputs: &mut [u64; INPUTS_ROOM],
 ) -> Got {
     if source.is_file {
-        return take_file(name, number, line, source.start, source.end, bytes, inputs);
+        return take_file(
+            console,
+            name,
+            number,
+            line,
+            source.start,
+            source.end,
+            bytes,
+            inputs,
+        );
     }
-    take_hex(name, number, line, source.start, source.end, bytes)
+    take_hex(console, name, number, line, source.start, source.end, bytes)
 }
 
 // ---- spans: the image's bytes are at the start of the one buffer, the memory's at its end
-fn print_span_replaced(number: u64, keyword: u8, setting: Setting) {
+fn print_span_replaced(console: &Console, number: u64, keyword: u8, setting: Setting) {
     if keyword == IMAGE {
-        print_replaced(number, b"image", setting.image.len, setting.image.first);
+        print_replaced(
+            console,
+            number,
+            b"image",
+            setting.image.len,
+            setting.image.first,
+        );
         return;
     }
-    print_replaced(number, b"memory", setting.memory.len, setting.memory.first);
+    print_replaced(
+        console,
+        number,
+        b"memory",
+        setting.memory.len,
+        setting.memory.first,
+    );
 }
 
 // Each may take what the other leaves of the buffer. The tests are for the proof.
 fn take_image(
+    console: &Console,
     name: &[u8],
     number: u64,
     line: &[u8],
@@ -62,10 +86,19 @@ fn take_image(
         return Got::Wrong;
     }
     let room = spans.len() - setting.memory.len;
-    take_source(name, number, line, source, &mut spans[0..room], inputs)
+    take_source(
+        console,
+        name,
+        number,
+        line,
+        source,
+        &mut spans[0..room],
+        inputs,
+    )
 }
 
 fn take_memory(
+    console: &Console,
     name: &[u8],
     number: u64,
     line: &[u8],
@@ -78,7 +111,15 @@ fn take_memory(
     if spans.len() < from {
         return Got::Wrong;
     }
-    let got = take_source(name, number, line, source, &mut spans[from..], inputs);
+    let got = take_source(
+        console,
+        name,
+        number,
+        line,
+        source,
+        &mut spans[from..],
+        inputs,
+    );
     match got {
         Got::Bytes(n) => {
             move_to_end(spans, from, n);
@@ -89,6 +130,7 @@ fn take_memory(
 }
 
 fn take_either(
+    console: &Console,
     name: &[u8],
     number: u64,
     line: &[u8],
@@ -99,12 +141,13 @@ fn take_either(
     inputs: &mut [u64; INPUTS_ROOM],
 ) -> Got {
     if keyword == IMAGE {
-        return take_image(name, number, line, source, setting, spans, inputs);
+        return take_image(console, name, number, line, source, setting, spans, inputs);
     }
-    take_memory(name, number, line, source, setting, spans, inputs)
+    take_memory(console, name, number, line, source, setting, spans, inputs)
 }
 
 fn take_span(
+    console: &Console,
     name: &[u8],
     number: u64,
     line: &[u8],
@@ -115,9 +158,11 @@ fn take_span(
     spans: &mut [u8],
     inputs: &mut [u64; INPUTS_ROOM],
 ) -> Setting {
-    match take_either(name, number, line, keyword, source, setting, spans, inputs) {
+    match take_either(
+        console, name, number, line, keyword, source, setting, spans, inputs,
+    ) {
         Got::Bytes(n) => {
-            print_span_replaced(number, keyword, setting);
+            print_span_replaced(console, number, keyword, setting);
             with_span(setting, keyword, first, n)
         }
         Got::Wrong => stopped(setting),
@@ -126,6 +171,7 @@ fn take_span(
 
 // ---- the trace buffer
 fn load_buffer(
+    console: &Console,
     name: &[u8],
     number: u64,
     line: &[u8],
@@ -138,25 +184,34 @@ fn load_buffer(
     if buffer.len() < size {
         return stopped(setting);
     }
-    match take_source(name, number, line, source, &mut buffer[0..size], inputs) {
+    match take_source(
+        console,
+        name,
+        number,
+        line,
+        source,
+        &mut buffer[0..size],
+        inputs,
+    ) {
         Got::Bytes(n) => {
-            print_discarded(number, b"load", setting.buffer.used);
+            print_discarded(console, number, b"load", setting.buffer.used);
             with_used(setting, n)
         }
         Got::Wrong => stopped(setting),
     }
 }
 
-fn print_read_by(name: &[u8], number: u64, line: &[u8], column: usize, by: u64) {
+fn print_read_by(console: &Console, name: &[u8], number: u64, line: &[u8], column: usize, by: u64) {
     let mut why = [0u8; 80];
     let a = append(&mut why, 0, b"line ");
     let b = append_number(&mut why, a, by);
     let c = append(&mut why, b, b" has read this file: save to another name");
-    print_wrong(name, number, line, column, &why[..c]);
+    print_wrong(console, name, number, line, column, &why[..c]);
 }
 
 // Whether a file may be written: not if this call has read it, by whatever name.
 fn may_write(
+    console: &Console,
     name: &[u8],
     number: u64,
     line: &[u8],
@@ -167,6 +222,7 @@ fn may_write(
     let file = part(line, start, end);
     if is_standard(file) {
         print_wrong(
+            console,
             name,
             number,
             line,
@@ -175,21 +231,23 @@ fn may_write(
         );
         return false;
     }
-    match read_by(inputs, identity(file)) {
+    match read_by(inputs, identity(&console.rt, file)) {
         ReadBy::Nothing => return true,
         ReadBy::Scenario => print_wrong(
+            console,
             name,
             number,
             line,
             start,
             b"this file is the scenario: save to another name",
         ),
-        ReadBy::Line(by) => print_read_by(name, number, line, start, by),
+        ReadBy::Line(by) => print_read_by(console, name, number, line, start, by),
     }
     false
 }
 
 fn save_buffer(
+    console: &Console,
     name: &[u8],
     number: u64,
     line: &[u8],
@@ -200,17 +258,18 @@ fn save_buffer(
 ) -> Setting {
     let start = source.start;
     let end = source.end;
-    if !may_write(name, number, line, start, end, inputs) {
+    if !may_write(console, name, number, line, start, end, inputs) {
         return stopped(setting);
     }
     let errno = save(
+        &console.rt,
         part(line, start, end),
         first_bytes(buffer, setting.buffer.used),
     );
     if errno == 0 {
         return setting;
     }
-    print_failed(name, number, line, start, errno);
+    print_failed(console, name, number, line, start, errno);
     stopped(setting)
 }
 
@@ -224,6 +283,7 @@ fn count_run(tally: &mut [u64; 2], is_refused: bool) {
 
 // The steps of a run that is done, on what it was given. What it has written behind the used part is written anew.
 fn print_steps_of<'a>(
+    console: &Console,
     code: &[u8],
     setting: Setting,
     registers: &[u64],
@@ -231,10 +291,11 @@ fn print_steps_of<'a>(
     variables: &[u64; sizes::VARIABLE_COUNT],
     buffer: &[u8],
 ) {
-    if !asks_steps() {
+    if !asks_steps(console) {
         return;
     }
     print_steps(
+        console,
         code,
         first_registers(registers, setting.registers),
         setting.image.first,
@@ -250,6 +311,7 @@ fn print_steps_of<'a>(
 
 // What came of a run, and its steps where they are asked for.
 fn print_told<'a>(
+    console: &Console,
     code: &[u8],
     outcome: Outcome,
     setting: Setting,
@@ -258,8 +320,8 @@ fn print_told<'a>(
     variables: &[u64; sizes::VARIABLE_COUNT],
     buffer: &[u8],
 ) {
-    print_outcome(code, outcome);
-    print_steps_of(code, setting, registers, spans, variables, buffer);
+    print_outcome(console, code, outcome);
+    print_steps_of(console, code, setting, registers, spans, variables, buffer);
 }
 
 fn allowance_of(setting: Setting) -> u64 {
@@ -270,6 +332,7 @@ fn allowance_of(setting: Setting) -> u64 {
 }
 
 fn run_code<'a>(
+    console: &Console,
     code: &[u8],
     setting: Setting,
     registers: &[u64],
@@ -281,16 +344,18 @@ fn run_code<'a>(
     let before = *variables;
     let memory = last_bytes(spans, setting.memory.len);
     let outcome = run_with(code, setting, registers, spans, memory, variables, buffer);
-    print_told(code, outcome, setting, registers, spans, &before, buffer);
+    print_told(
+        console, code, outcome, setting, registers, spans, &before, buffer,
+    );
     match outcome {
         Outcome::Completed(value, steps, used) => {
             count_run(tally, false);
-            print_run(&before, variables, buffer, used);
+            print_run(console, &before, variables, buffer, used);
             with_used(setting, used)
         }
         Outcome::Refused(_) => {
             count_run(tally, true);
-            print_buffer(setting.buffer.used, buffer.len());
+            print_buffer(console, setting.buffer.used, buffer.len());
             setting
         }
     }
@@ -298,6 +363,7 @@ fn run_code<'a>(
 
 // The trace buffer is never shorter than its size; the test is for the proof.
 fn run_line(
+    console: &Console,
     name: &[u8],
     number: u64,
     line: &[u8],
@@ -314,9 +380,18 @@ fn run_line(
     if buffer.len() < size {
         return stopped(setting);
     }
-    match take_hex(name, number, line, source.start, source.end, &mut code) {
+    match take_hex(
+        console,
+        name,
+        number,
+        line,
+        source.start,
+        source.end,
+        &mut code,
+    ) {
         Got::Wrong => stopped(setting),
         Got::Bytes(n) => run_code(
+            console,
             first_bytes(&code, n),
             setting,
             registers,
@@ -330,6 +405,7 @@ fn run_line(
 
 // ---- lines
 fn take_number(
+    console: &Console,
     number: u64,
     keyword: u8,
     which: u64,
@@ -339,7 +415,7 @@ fn take_number(
     variables: &mut [u64; sizes::VARIABLE_COUNT],
 ) -> Setting {
     if keyword == BUFFER {
-        print_discarded(number, b"buffer", setting.buffer.used);
+        print_discarded(console, number, b"buffer", setting.buffer.used);
     }
     store(keyword, which, value, registers, variables);
     with_number(setting, keyword, which, value)
@@ -347,6 +423,7 @@ fn take_number(
 
 // A line that has bytes, or the name of a file.
 fn take_bytes(
+    console: &Console,
     name: &[u8],
     number: u64,
     line: &[u8],
@@ -363,22 +440,24 @@ fn take_bytes(
 ) -> Setting {
     if keyword == RUN {
         return run_line(
-            name, number, line, source, setting, registers, spans, variables, buffer, tally,
+            console, name, number, line, source, setting, registers, spans, variables, buffer,
+            tally,
         );
     }
     if keyword == LOAD {
-        return load_buffer(name, number, line, source, setting, buffer, inputs);
+        return load_buffer(console, name, number, line, source, setting, buffer, inputs);
     }
     if keyword == SAVE {
-        return save_buffer(name, number, line, source, setting, buffer, inputs);
+        return save_buffer(console, name, number, line, source, setting, buffer, inputs);
     }
     take_span(
-        name, number, line, keyword, first, source, setting, spans, inputs,
+        console, name, number, line, keyword, first, source, setting, spans, inputs,
     )
 }
 
 // The answer is what is set then.
 pub fn take_item(
+    console: &Console,
     name: &[u8],
     number: u64,
     line: &[u8],
@@ -394,9 +473,10 @@ pub fn take_item(
         Item::Nothing => setting,
         Item::DefaultAllowance => with_default_allowance(setting),
         Item::Set(keyword, which, value) => take_number(
-            number, keyword, which, value, setting, registers, variables,
+            console, number, keyword, which, value, setting, registers, variables,
         ),
         Item::Bytes(keyword, first, start, end) => take_bytes(
+            console,
             name,
             number,
             line,
@@ -416,6 +496,7 @@ pub fn take_item(
             tally,
         ),
         Item::File(keyword, first, start, end) => take_bytes(
+            console,
             name,
             number,
             line,
@@ -435,7 +516,7 @@ pub fn take_item(
             tally,
         ),
         Item::Wrong(fault, column) => {
-            print_fault(name, number, line, fault, column);
+            print_fault(console, name, number, line, fault, column);
             stopped(setting)
         }
     }

@@ -5,8 +5,10 @@ use crate::asked::file_place;
 use crate::inputs::{INPUTS_ROOM, keep};
 use crate::items::take_item;
 use crate::outcome::print_completed;
-use console_output::{print_error, print_error_at, print_failure, refuse_option};
-use files::{close, identity, open};
+use console_output::{
+    Console, is_unread, print_error, print_error_at, print_failure, refuse_option,
+};
+use files::{Input, identity, open};
 use scenario_setting::{Setting, start, stopped};
 
 // The image and the memory have so many bytes together: a program's arrays lie on its stack, and the manual says how
@@ -19,6 +21,7 @@ fn spans_buffer() -> [u8; 1572864]
 
 // A line of `len` characters, of which the buffer holds all unless it is too short.
 fn take_line(
+    console: &Console,
     name: &[u8],
     number: u64,
     text: &[u8],
@@ -32,10 +35,11 @@ fn take_line(
     tally: &mut [u64; 2],
 ) -> Setting {
     if text.len() < len {
-        print_error_at(name, number, 0, b"longer than 65536 characters");
+        print_error_at(console, name, number, 0, b"longer than 65536 characters");
         return stopped(setting);
     }
     take_item(
+        console,
         name,
         number,
         &text[0..len],
@@ -50,8 +54,8 @@ fn take_line(
 }
 
 // The number of a line also bounds the loop, for its proof.
-fn run_lines(fd: i32, name: &[u8]) {
-    let mut input = io::large_buffer();
+fn run_lines(console: &Console, input: Input, name: &[u8]) {
+    let mut room = io::large_buffer();
     let mut text = io::large_buffer();
     let mut registers = [0u64; 257];
     let mut spans = spans_buffer();
@@ -60,19 +64,20 @@ fn run_lines(fd: i32, name: &[u8]) {
     let mut inputs = [0u64; INPUTS_ROOM];
     let mut tally = [0u64; 2];
     let mut setting = start();
-    let mut line = lines::start_of(fd);
+    let mut line = lines::start_of(input);
     let mut number = 1;
-    keep(&mut inputs, identity(name), 0);
+    keep(&mut inputs, identity(&console.rt, name), 0);
     while number < u64::MAX {
-        line = lines::next(&mut input, &mut text, line);
+        line = lines::next(&mut room, &mut text, line);
         if line.is_failed {
-            print_failure(name, os::errno());
+            print_failure(console, name, line.errno);
             return;
         }
         if !line.is_line {
             break;
         }
         setting = take_line(
+            console,
             name,
             number,
             &text,
@@ -85,44 +90,50 @@ fn run_lines(fd: i32, name: &[u8]) {
             &mut inputs,
             &mut tally,
         );
-        if setting.is_stopped {
+        if setting.is_stopped || is_unread(console) {
             return;
         }
         number += 1;
     }
-    print_completed(&tally);
+    print_completed(console, &tally);
 }
 
-fn run_file(name: &[u8]) {
-    let fd = open(name);
-    if fd < 0 {
-        print_failure(name, os::errno());
-        return;
+fn run_file(console: &Console, name: &[u8]) {
+    match open(&console.rt, name) {
+        Ok(input) => run_lines(console, input, name),
+        Err(errno) => print_failure(console, name, errno),
     }
-    run_lines(fd, name);
-    close(fd);
 }
 
-pub fn run() {
-    let place = file_place();
-    if arguments::count() <= place {
-        print_error(b"FILE is missing: write lilivrez run FILE, or lilivrez help");
-        return;
-    }
-    if place + 1 < arguments::count() {
-        print_error(b"more than one word after run: write lilivrez run FILE");
-        return;
-    }
-    let mut name = io::buffer();
-    let n = arguments::get(place, &mut name);
-    if os::errno() != 0 {
-        print_error(b"the name of the file is too long");
-        return;
-    }
-    if !arguments::is_operand(place) {
-        if refuse_option(&name[..n]) {
+// Behind -- no word is an option.
+fn run_named(console: &Console, name: &[u8], place: usize) {
+    if !arguments::is_operand(&console.rt, place) {
+        if refuse_option(console, name) {
             return;
         }
     }
-    run_file(&name[..n]);
+    run_file(console, name);
+}
+
+pub fn run(console: &Console) {
+    let place = file_place(console);
+    if arguments::count(&console.rt) <= place {
+        print_error(
+            console,
+            b"FILE is missing: write lilivrez run FILE, or lilivrez help",
+        );
+        return;
+    }
+    if place + 1 < arguments::count(&console.rt) {
+        print_error(
+            console,
+            b"more than one word after run: write lilivrez run FILE",
+        );
+        return;
+    }
+    let mut name = io::buffer();
+    match arguments::whole(&console.rt, place, &mut name) {
+        Some(n) => run_named(console, &name[..n], place),
+        None => print_error(console, b"the name of the file is too long"),
+    }
 }

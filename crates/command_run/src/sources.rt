@@ -1,6 +1,7 @@
 // Where bytes come from: the line itself, or a file that it names.
 use crate::inputs::{INPUTS_ROOM, ReadBy, keep, read_by};
 use crate::wrong::{part, print_failed, print_hex, print_wrong, word_from};
+use console_output::Console;
 use files::{Loaded, identity, is_standard, load};
 use hexadecimal::HexAnswer;
 use std::num::wrapping_add_usize;
@@ -14,6 +15,7 @@ pub enum Got {
 
 // The bytes that a part of a line spells, put at the start of `bytes`.
 pub fn take_hex(
+    console: &Console,
     name: &[u8],
     number: u64,
     line: &[u8],
@@ -24,6 +26,7 @@ pub fn take_hex(
     let read = expression_bytes::read(part(line, start, end), bytes);
     if !read.fitting {
         print_wrong(
+            console,
             name,
             number,
             line,
@@ -37,18 +40,18 @@ pub fn take_hex(
         HexAnswer::Bytes(n) => Got::Bytes(n),
         _ => {
             let first = wrapping_add_usize(start, read.start);
-            print_hex(name, number, line, first, end, answer);
+            print_hex(console, name, number, line, first, end, answer);
             Got::Wrong
         }
     }
 }
 
 // Standard input is read once: what has read it leaves nothing for another.
-fn is_used_up(file: &[u8], inputs: &[u64; INPUTS_ROOM]) -> bool {
+fn is_used_up(console: &Console, file: &[u8], inputs: &[u64; INPUTS_ROOM]) -> bool {
     if !is_standard(file) {
         return false;
     }
-    match read_by(inputs, identity(file)) {
+    match read_by(inputs, identity(&console.rt, file)) {
         ReadBy::Nothing => false,
         _ => true,
     }
@@ -56,6 +59,7 @@ fn is_used_up(file: &[u8], inputs: &[u64; INPUTS_ROOM]) -> bool {
 
 // Whether a file may be read; it is kept as one that was.
 fn may_read(
+    console: &Console,
     name: &[u8],
     number: u64,
     line: &[u8],
@@ -64,12 +68,20 @@ fn may_read(
     inputs: &mut [u64; INPUTS_ROOM],
 ) -> bool {
     let file = part(line, start, end);
-    if is_used_up(file, inputs) {
-        print_wrong(name, number, line, start, b"standard input was read before");
+    if is_used_up(console, file, inputs) {
+        print_wrong(
+            console,
+            name,
+            number,
+            line,
+            start,
+            b"standard input was read before",
+        );
         return false;
     }
-    if !keep(inputs, identity(file), number) {
+    if !keep(inputs, identity(&console.rt, file), number) {
         print_wrong(
+            console,
             name,
             number,
             line,
@@ -83,6 +95,7 @@ fn may_read(
 
 // The bytes of a file whose name is a part of a line, put at the start of `bytes`.
 pub fn take_file(
+    console: &Console,
     name: &[u8],
     number: u64,
     line: &[u8],
@@ -91,14 +104,15 @@ pub fn take_file(
     bytes: &mut [u8],
     inputs: &mut [u64; INPUTS_ROOM],
 ) -> Got {
-    if !may_read(name, number, line, start, end, inputs) {
+    if !may_read(console, name, number, line, start, end, inputs) {
         return Got::Wrong;
     }
-    match load(part(line, start, end), bytes) {
+    match load(&console.rt, part(line, start, end), bytes) {
         Loaded::Bytes(n) => return Got::Bytes(n),
-        Loaded::NotOpened(errno) => print_failed(name, number, line, start, errno),
-        Loaded::NotRead(errno) => print_failed(name, number, line, start, errno),
+        Loaded::NotOpened(errno) => print_failed(console, name, number, line, start, errno),
+        Loaded::NotRead(errno) => print_failed(console, name, number, line, start, errno),
         Loaded::TooLong => print_wrong(
+            console,
             name,
             number,
             line,

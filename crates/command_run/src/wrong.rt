@@ -1,5 +1,5 @@
 // What is wrong with a line, told on standard error. Columns are counted from 0 here.
-use console_output::{print_error_word, print_failure_at};
+use console_output::{Console, print_error_word, print_failure_at};
 use hexadecimal::HexAnswer;
 use line_words::{next_word, word_length};
 use scenario::ItemFault;
@@ -31,8 +31,16 @@ fn word_at<'a>(line: &'a [u8], column: usize) -> &'a [u8] {
     part(rest, 0, word_length(rest))
 }
 
-pub fn print_wrong(name: &[u8], number: u64, line: &[u8], column: usize, why: &[u8]) {
+pub fn print_wrong(
+    console: &Console,
+    name: &[u8],
+    number: u64,
+    line: &[u8],
+    column: usize,
+    why: &[u8],
+) {
     print_error_word(
+        console,
         name,
         number,
         wrapping_add_u64(column as u64, 1),
@@ -41,8 +49,16 @@ pub fn print_wrong(name: &[u8], number: u64, line: &[u8], column: usize, why: &[
     );
 }
 
-pub fn print_failed(name: &[u8], number: u64, line: &[u8], column: usize, errno: i32) {
+pub fn print_failed(
+    console: &Console,
+    name: &[u8],
+    number: u64,
+    line: &[u8],
+    column: usize,
+    errno: i32,
+) {
     print_failure_at(
+        console,
         name,
         number,
         wrapping_add_u64(column as u64, 1),
@@ -51,9 +67,17 @@ pub fn print_failed(name: &[u8], number: u64, line: &[u8], column: usize, errno:
     );
 }
 
-pub fn print_fault(name: &[u8], number: u64, line: &[u8], fault: ItemFault, column: usize) {
+pub fn print_fault(
+    console: &Console,
+    name: &[u8],
+    number: u64,
+    line: &[u8],
+    fault: ItemFault,
+    column: usize,
+) {
     match fault {
         ItemFault::UnknownWord => print_wrong(
+            console,
             name,
             number,
             line,
@@ -61,20 +85,36 @@ pub fn print_fault(name: &[u8], number: u64, line: &[u8], fault: ItemFault, colu
             b"unknown word: lilivrez help lists the lines of a scenario",
         ),
         ItemFault::MissingWord => print_error_word(
+            console,
             name,
             number,
             wrapping_add_u64(column as u64, 1),
             b"",
             b"a word is missing",
         ),
-        ItemFault::NotNumber => print_wrong(name, number, line, column, b"not a number"),
-        ItemFault::TooLarge => print_wrong(name, number, line, column, b"the number is too large"),
-        ItemFault::LeftOver => print_wrong(name, number, line, column, b"something is left over"),
+        ItemFault::NotNumber => print_wrong(console, name, number, line, column, b"not a number"),
+        ItemFault::TooLarge => print_wrong(
+            console,
+            name,
+            number,
+            line,
+            column,
+            b"the number is too large",
+        ),
+        ItemFault::LeftOver => print_wrong(
+            console,
+            name,
+            number,
+            line,
+            column,
+            b"something is left over",
+        ),
     }
 }
 
 // The text from `start` to `end` spells no bytes, or too many.
 pub fn print_hex(
+    console: &Console,
     name: &[u8],
     number: u64,
     line: &[u8],
@@ -85,6 +125,7 @@ pub fn print_hex(
     match answer {
         HexAnswer::Bytes(_) => {}
         HexAnswer::NotHex(position) => print_wrong(
+            console,
             name,
             number,
             line,
@@ -92,6 +133,7 @@ pub fn print_hex(
             b"not hexadecimal: write two digits, 0-9 or a-f, for each byte",
         ),
         HexAnswer::Odd => print_error_word(
+            console,
             name,
             number,
             end as u64,
@@ -99,6 +141,7 @@ pub fn print_hex(
             b"a digit is left over: write two digits for each byte",
         ),
         HexAnswer::TooLong => print_wrong(
+            console,
             name,
             number,
             line,
