@@ -1,11 +1,13 @@
-// lilivrez: the command-line tool. A program has no exit status of its own: each refused answer and each error is told on
-// descriptor 3 where the wrapper asks for it, and the first word of each answer is fixed.
+// lilivrez: the command-line tool. Each refused answer and each error is told on descriptor 3 where the wrapper asks for
+// it, and the first word of each answer is fixed.
 #![tactic(auto)]
 
-use console_output::{print, print_error, print_error_of};
+use console_output::{Console, is_unread, print, print_error, print_error_of};
+use std::process::ExitCode;
 
-fn print_help() {
+fn print_help(console: &Console) {
     print(
+        console,
         b"lilivrez checks and runs GDB agent expressions as the trace agent of a medical imaging unit
 does, and shows what they recorded.
 
@@ -30,13 +32,14 @@ A hex dump over several lines is several expressions, unless --one is given.
 
 ",
     );
-    print_scenario();
-    print_end();
+    print_scenario(console);
+    print_end(console);
 }
 
 // The form of a scenario.
-fn print_scenario() {
+fn print_scenario(console: &Console) {
     print(
+        console,
         b"A scenario has one item a line, and # starts a comment. What is set stays set for later runs.
   image ADDRESS bytes HEX     the program image; or image ADDRESS file NAME
   memory ADDRESS bytes HEX    the working memory; or memory ADDRESS file NAME
@@ -53,8 +56,9 @@ Numbers are decimal, or hexadecimal with 0x in front.
     );
 }
 
-fn print_end() {
+fn print_end(console: &Console) {
     print(
+        console,
         b"A saved trace buffer is a file of its used part. Frames are counted from the newest, 0, and the
 records of a frame from its first, 0.
 
@@ -86,27 +90,27 @@ fn is_help(word: &[u8]) -> bool {
 }
 
 // Behind -- no word is an option.
-fn is_help_at(i: usize) -> bool {
-    if arguments::is_operand(i) {
+fn is_help_at(console: &Console, i: usize) -> bool {
+    if arguments::is_operand(&console.rt, i) {
         return false;
     }
     let mut word = [0u8; 8];
-    let n = arguments::get(i, &mut word);
+    let n = arguments::get(&console.rt, i, &mut word);
     is_help_option(&word[..n])
 }
 
-fn print_version() {
-    print(b"lilivrez ");
-    print(&version::TEXT);
-    print(b"\n");
+fn print_version(console: &Console) {
+    print(console, b"lilivrez ");
+    print(console, &version::TEXT);
+    print(console, b"\n");
 }
 
 // Whether -h or --help stands somewhere behind the command.
-fn asks_help() -> bool {
-    let count = arguments::count();
+fn asks_help(console: &Console) -> bool {
+    let count = arguments::count(&console.rt);
     let mut i = 2;
     while i < count {
-        if is_help_at(i) {
+        if is_help_at(console, i) {
             return true;
         }
         i += 1;
@@ -114,57 +118,76 @@ fn asks_help() -> bool {
     false
 }
 
-fn print_unknown(word: &[u8]) {
+fn print_unknown(console: &Console, word: &[u8]) {
     if word.len() == 0 {
-        print_error(b"unknown command: lilivrez help lists what there is");
+        print_error(
+            console,
+            b"unknown command: lilivrez help lists what there is",
+        );
         return;
     }
-    print_error_of(word, b"unknown command: lilivrez help lists what there is");
+    print_error_of(
+        console,
+        word,
+        b"unknown command: lilivrez help lists what there is",
+    );
 }
 
-fn run_command(word: &[u8]) {
+fn run_command(console: &Console, word: &[u8]) {
     if check::same(word, b"explain") {
-        command_explain::run();
+        command_explain::run(console);
         return;
     }
     if check::same(word, b"verify") {
-        command_verify::verify::run();
+        command_verify::verify::run(console);
         return;
     }
     if check::same(word, b"run") {
-        command_run::run::run();
+        command_run::run::run(console);
         return;
     }
     if check::same(word, b"frames") {
-        command_frames::command::run();
+        command_frames::command::run(console);
         return;
     }
-    print_unknown(word);
+    print_unknown(console, word);
 }
 
-fn run_word(word: &[u8]) {
+fn run_word(console: &Console, word: &[u8]) {
     if is_help(word) {
-        print_help();
+        print_help(console);
         return;
     }
-    if asks_help() {
-        print_help();
+    if asks_help(console) {
+        print_help(console);
         return;
     }
     if check::same(word, b"--version") {
-        print_version();
+        print_version(console);
         return;
     }
-    run_command(word);
+    run_command(console, word);
 }
 
 // The word is empty where the argument is, and where it is longer than the buffer: both are no command.
-fn main() {
-    if arguments::count() < 2 {
-        print_help();
+fn run(console: &Console) {
+    if arguments::count(&console.rt) < 2 {
+        print_help(console);
         return;
     }
     let mut word = io::buffer();
-    let n = arguments::get(1, &mut word);
-    run_word(&word[..n]);
+    let n = arguments::get(&console.rt, 1, &mut word);
+    run_word(console, &word[..n]);
+}
+
+// The status where nobody reads what is printed any more: 128 and the number of the signal for that, SIGPIPE.
+const UNREAD: u8 = 141;
+
+fn main(rt: HostRuntime) -> ExitCode {
+    let console = &Console::new(rt);
+    run(console);
+    if is_unread(console) {
+        return ExitCode::from(UNREAD);
+    }
+    ExitCode::SUCCESS
 }
