@@ -1,5 +1,5 @@
 use Rattle.std.proofs.Common.{ℕ, sym}
-use lib.ListN.{length-replicate}
+use Rattle.std.proofs.lemmas.List.{length-replicate}
 use Rattle.command_verify.proofs.answer.text_buffer.Goals as goal
 
 pub returns : goal.returns

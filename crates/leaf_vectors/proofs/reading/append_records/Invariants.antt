@@ -1,6 +1,4 @@
-use Prim.Native.Nat.{◌-◌}
-use mathlib.Core.Path.{◌≡◌}
-use lib.ListN.{length}
+use Rattle.std.proofs.Common.{◌-◌, ◌≡◌, length}
 use Rattle.io.specs.Counts.{IsPrefixLen}
 use Rattle.leaf_vectors.proofs.reading.append_records.Given as goal
 
