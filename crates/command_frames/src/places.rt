@@ -63,7 +63,8 @@ pub fn place_behind(buffer: &[u8], end: usize, place: usize) -> usize
 
 // The place of record `index` of those from `start` to `end`: from there on the walk gives what is left of the records.
 pub fn record_place(buffer: &[u8], start: usize, end: usize, index: u64) -> usize
-    ensures { (rs : List Record) (q : Refusal) → RecordsFrom buffer.now end start rs q → index ≤ length rs → RecordsFrom buffer.now end result (drop index rs) q }
+    ensures { (rs : List Record) (q : Refusal) → RecordsFrom buffer.now end start rs q → index ≤ length rs
+        → RecordsFrom buffer.now end result (drop index rs) q }
 {
     let mut place = start;
     let mut left = index;

@@ -23,7 +23,8 @@ pub struct Line<R> {
 
 // Before the first line of an open file nothing is read.
 pub fn start_of<R: Read>(reader: R) -> Line<R>
-    ensures { (result.reader ≡ reader) × (result.len ≡ 0) × (result.from ≡ 0) × (result.to ≡ 0) × (result.is_line ≡ false) × (result.is_failed ≡ false) }
+    ensures { (result.reader ≡ reader) × (result.len ≡ 0) × (result.from ≡ 0) × (result.to ≡ 0)
+        × (result.is_line ≡ false) × (result.is_failed ≡ false) }
 {
     Line {
         reader,

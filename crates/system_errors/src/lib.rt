@@ -36,7 +36,7 @@ pub const ELOOP: i32 = 40;
 
 pub const EILSEQ: i32 = 84;
 
-// The number of an error that is no call's of the system: a path with a NUL in it, one that is no UTF-8, no memory left.
+// The number of an error that no call of the system told: of a path with a NUL, or that is not UTF-8; of no memory left.
 fn number_of_kind(kind: ErrorKind) -> i32 {
     match kind {
         ErrorKind::InvalidInput => EINVAL,
