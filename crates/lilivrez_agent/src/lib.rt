@@ -1,4 +1,4 @@
-// The agent as a static library, for C and Rust: include/lilivrez_agent.h says how it is called.
+// The agent, as functions with plain numbers: for Rust here, for C in lilivrez_agent_c (include/lilivrez_agent.h).
 #![tactic(auto)]
 
 ghost use Rattle.std.specs.Prelude.{◌≡◌};

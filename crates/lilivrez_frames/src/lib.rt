@@ -1,4 +1,4 @@
-// The frame reader as a static library, for C and Rust: include/lilivrez_frames.h says how it is called.
+// The frame reader, as functions with plain numbers: for Rust here, for C in lilivrez_frames_c (include/lilivrez_frames.h).
 #![tactic(auto)]
 
 ghost use Rattle.std.specs.Prelude.{◌≡◌};

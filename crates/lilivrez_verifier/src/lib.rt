@@ -1,4 +1,4 @@
-// The verifier as a static library, for C and Rust: include/lilivrez_verifier.h says how it is called.
+// The verifier, as functions with plain numbers: for Rust here, for C in lilivrez_verifier_c (include/lilivrez_verifier.h).
 #![tactic(auto)]
 
 ghost use Rattle.std.specs.Prelude.{◌≡◌};
