@@ -1,4 +1,5 @@
-// The agent as a static library, for C: include/lilivrez_agent.h says how it is called. Each function is lilivrez_agent's of that name.
+// The agent as a static library, for C: include/lilivrez_agent.h says how it is called. Each function is that of the
+// same name in lilivrez_agent.
 #![tactic(auto)]
 
 ghost use Rattle.std.specs.Prelude.{◌≡◌};

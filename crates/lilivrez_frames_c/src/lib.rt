@@ -1,4 +1,5 @@
-// The frame reader as a static library, for C: include/lilivrez_frames.h says how it is called. Each function is lilivrez_frames's of that name.
+// The frame reader as a static library, for C: include/lilivrez_frames.h says how it is called. Each function is that of the
+// same name in lilivrez_frames.
 #![tactic(auto)]
 
 ghost use Rattle.std.specs.Prelude.{◌≡◌};

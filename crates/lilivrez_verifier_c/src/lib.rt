@@ -1,4 +1,5 @@
-// The verifier as a static library, for C: include/lilivrez_verifier.h says how it is called. Each function is lilivrez_verifier's of that name.
+// The verifier as a static library, for C: include/lilivrez_verifier.h says how it is called. Each function is that of the
+// same name in lilivrez_verifier.
 #![tactic(auto)]
 
 ghost use Rattle.std.specs.Prelude.{◌≡◌};
