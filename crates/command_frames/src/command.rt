@@ -169,6 +169,8 @@ fn refuse_option_at(console: &Console, i: usize) -> bool {
     refuse_option(console, &word[..n])
 }
 
+// Its arrays lie in a frame of their own, and in that of no other command.
+#[inline(never)]
 pub fn run(console: &Console) {
     let count = arguments::count(&console.rt);
     if count < 3 {

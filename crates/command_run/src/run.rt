@@ -115,6 +115,8 @@ fn run_named(console: &Console, name: &[u8], place: usize) {
     run_file(console, name);
 }
 
+// Its arrays lie in a frame of their own, and in that of no other command.
+#[inline(never)]
 pub fn run(console: &Console) {
     let place = file_place(console);
     if arguments::count(&console.rt) <= place {

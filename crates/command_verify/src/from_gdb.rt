@@ -241,6 +241,8 @@ fn read_text(console: &Console, text: &[u8], asked: Asked) {
     read_parts(console, text, end < text.len(), asked);
 }
 
+// Its arrays lie in a frame of their own, and in that of no other command.
+#[inline(never)]
 pub fn run(console: &Console, asked: Asked) {
     let mut text = files::mebibyte_buffer();
     match files::load_rest(&mut console.rt.stdin(), &mut text) {

@@ -371,6 +371,8 @@ fn requested(console: &Console) -> Request {
     r
 }
 
+// Its arrays lie in a frame of their own, and in that of no other command.
+#[inline(never)]
 pub fn run(console: &Console) {
     let r = requested(console);
     let asked = r.asked;
