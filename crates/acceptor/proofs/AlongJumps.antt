@@ -2,7 +2,7 @@
 use mathlib.Core.Bool.{Bool, true, false}
 use mathlib.Core.List.{List, [], ◌∷◌}
 use mathlib.Core.Path.{◌≡◌, refl, ap, sym, ◌∙◌, subst}
-use mathlib.Core.Logic.{◌≢◌, inl, inr, ⊎_elim}
+use mathlib.Core.Logic.{◌≢◌, inl, ⊎_elim}
 use Prim.Native.Nat.{ℕ, zero, suc, ◌+◌, ◌-◌, ◌≤◌, ◌<◌, max}
 use native.Mathlib.Omega.{arith}
 use native.Mathlib.Decide.{ℕ_discrete}
@@ -12,23 +12,22 @@ use borrow.Author.Tests.{eq-eqb, ne_eqb, lt-leb}
 use Rattle.isa.specs.Classes.{kind, setv, kind_variable, kind_goto, kind_if_goto}
 use Rattle.isa.specs.Decode.{class_at, kind_at, next, operand, needed, height_after}
 use Rattle.isa.specs.Starts.{starts, starts_from, is_start}
-use Rattle.isa.specs.Walk.{one}
 use Rattle.isa.proofs.Promises.{after_by, needed_row, left_row, end_cells, from_end, from_next, start_next}
 use Rattle.verdict.specs.Pass1.{fault1, Decodes}
 use Rattle.verdict.specs.Pass2.{fault2, Aims}
-use Rattle.verdict.specs.Pass3.{unreached, joined, arrive, raise, runs_off_end, pass3}
+use Rattle.verdict.specs.Pass3.{unreached, joined, arrive, raise, runs_off_end}
 use Rattle.verdict.specs.Verdict.{accepted, verdict}
 use Rattle.verdict.proofs.Deciding.{first_nil, first_ok, clear_holds, f_plain, f_forward, off_goto, off_end, off_other, fault_none, joined_same, raises, if_kept, jumps_true, verdict_3}
 use Rattle.passes.specs.Joining.Tables.{Unmeasured, Effected, Brings, ReachedStep, Measuring}
-use Rattle.passes.specs.declared.pass3.Carry.{Carry}
-use Rattle.passes.specs.declared.brought.Flow.{Flow}
-use Rattle.passes.proofs.Promises.{target_jump, brings_none, joined_reached, incoming_flow, incoming_both, stepped_on, stepped_goto, stepped_end, turned_step, unmeasured_new, measuring_turn, measuring_end, measure_fine}
-use Rattle.acceptor.specs.Joining.StraightCode.{stop_on, stop_doubt, stop_accepted, GoesOn, IsEnd, IsJump, IsIfGoto, IsGoto, SetsNothingBefore, Following, Straight}
-use Rattle.acceptor.specs.Joining.CodeWithJumps.{Brought, noted_one, tally, Pending, NotedStarts, JoinsOr, JumpsOn, Jumped, Stands, Branching, BranchingJoined, Concluded, Turns}
-use Rattle.acceptor.specs.declared.effects.HeightEffect.{HeightEffect}
-use Rattle.acceptor.specs.declared.branching.JoinEnd.{JoinEnd}
-use Rattle.acceptor.specs.declared.branching.JumpEnd.{JumpEnd}
-use Rattle.acceptor.specs.declared.Progress.{Progress}
+use Rattle.passes.specs.Joining.Tables.{Carry}
+use Rattle.passes.proofs.Promises.{target_jump, brings_none, joined_reached, incoming_flow, incoming_both, stepped_on, stepped_goto, stepped_end, turned_step, unmeasured_new, measuring_turn, measuring_end}
+use Rattle.acceptor.specs.Joining.Instruction.{GoesOn, IsEnd, IsJump, IsIfGoto, IsGoto}
+use Rattle.acceptor.specs.Joining.StraightCode.{SetsNothingBefore, Following, Accepts}
+use Rattle.acceptor.specs.Joining.CodeWithJumps.{noted_one, tally, Pending, NotedStarts, Joins, FromJumps, progress_behind, JumpsOn, Stands, Branching, BranchingJoined, Turns}
+use Rattle.acceptor.specs.declared.effects.Onward.{Onward}
+use Rattle.acceptor.specs.declared.Stop.{Stop}
+use Rattle.acceptor.specs.declared.branching.Progress.{Progress}
+use Rattle.acceptor.specs.declared.branching.Turn.TheVariants.{On}
 use Rattle.acceptor.proofs.AlongStraight.{quiet_next, quiet_last, no_jump_low, no_jump_end}
 
 -- ---- the number of offsets noted
@@ -182,41 +181,43 @@ brings_jump e k h d r hs ds hs' ds' a b p q = record {
 }
 
 -- ---- the loop
-pub branching_start : {e : List ℕ} {k h n g : ℕ} {x : Bool} {hs ds : List ℕ} → length e ≤ 1024 → Following e k h n g x → Unmeasured e hs ds
-    → Branching e (record { stop = stop_on; at = k; height = h; distance = n; count = n; greatest = g; longest = 0; noted = 0; met = 0; sets = x }) hs ds
-branching_start {e} {k} {hs = hs} {ds = ds} short s u = record {
+-- the state with which it begins
+abbrev begun : Stop → Progress
+begun s = record { at = s.at; height = s.height; distance = s.count; count = s.count; greatest = s.greatest; longest = 0; noted = 0; met = 0; sets = s.sets }
+
+pub branching_start : {e : List ℕ} {s : Stop} {hs ds : List ℕ} → Following e s → Unmeasured e hs ds → Branching e (begun s) hs ds
+branching_start {e} {s} {hs} {ds} f u = record {
   stands = record {
-    short = short;
-    inside = s.inside;
-    start = s.start;
-    same1 = s.same1;
-    count = s.count;
-    aims = λ _. s.same2;
-    highest = s.highest;
-    lower = omega (arith, s.low);
-    few = s.few;
+    short = f.short;
+    inside = f.inside;
+    start = f.start;
+    same1 = f.same1;
+    count = f.count;
+    aims = λ _. f.same2;
+    highest = f.highest;
+    lower = omega (arith, f.low);
+    few = f.few;
     few_noted = omega arith;
     heights_long = u.heights_long;
     distances_long = u.distances_long;
     low = λ j. omega (arith, u.no_distance j);
   };
-  near = s.few;
-  pending = pending_start e k hs u.no_height;
-  measuring = s.measuring hs ds u;
-  quiet = s.quiet;
+  near = f.few;
+  pending = pending_start e s.at hs u.no_height;
+  measuring = f.measuring hs ds u;
+  quiet = f.quiet;
 }
 
+pub joins_at : (c b : ℕ) (s r : Progress) → Joins c b s r → r.at ≡ s.at
+joins_at c b s r w = ⊎_elim (λ x. ap (λ (y : Progress). y.at) x.1) (λ x. ap (λ (y : Progress). y.at) x.2) w
+
 -- what jumps have brought meets what flows in
-pub joining : {e : List ℕ} {s : Progress} {hs ds : List ℕ} {r : JoinEnd} → Branching e s hs ds
-    → JoinsOr (get_or hs s.at 0) (get_or ds s.at 0) s.height s.distance s.met r → r.stop ≡ stop_on
-    → BranchingJoined e
-    (record { stop = stop_on; at = s.at; height = s.height; distance = r.distance; count = s.count; greatest = s.greatest; longest = s.longest; noted = s.noted; met = r.met; sets = s.sets })
-    hs ds
-joining {e} {s} {hs} {ds} {r} a w zero-stop =
+pub joining : {e : List ℕ} {s r : Progress} {hs ds : List ℕ} → Branching e s hs ds → Joins (get_or hs s.at 0) (get_or ds s.at 0) s r → BranchingJoined e r hs ds
+joining {e} {s} {r} {hs} {ds} a w =
     let k : ℕ = s.at in
     let st = a.stands in
     ⊎_elim
-    (λ (x : (get_or hs k 0 ≡ unreached) × (r.distance ≡ s.distance) × (r.met ≡ s.met)). rw (x.1, x.2) (record {
+    (λ (x : (get_or hs k 0 ≡ unreached) × (r ≡ s)). rw x.1 (record {
       stands = st;
       near = a.near;
       pending = pending_on (k + 1) (omega arith) a.pending;
@@ -226,7 +227,7 @@ joining {e} {s} {hs} {ds} {r} a w zero-stop =
           incoming_flow (get_or hs k 0) (get_or ds k 0) s.height s.distance x.0 ((a.measuring low d i).untold k st.inside) (omega (arith, st.highest));
       quiet = a.quiet;
     }))
-    (λ (x : (get_or hs k 0 ≡ s.height) × (get_or hs k 0 ≢ unreached) × (r.distance ≡ max (get_or ds k 0) s.distance) × (r.met ≡ s.met + 1)). rw (x.2, x.3) (record {
+    (λ (x : (get_or hs k 0 ≡ s.height) × (get_or hs k 0 ≢ unreached) × (r ≡ record s { distance = max (get_or ds k 0) s.distance; met = s.met + 1 })). rw x.2 (record {
       stands = st;
       near = omega (arith, a.near, st.low k);
       pending = pending_met a.pending st.inside st.start x.1;
@@ -236,7 +237,7 @@ joining {e} {s} {hs} {ds} {r} a w zero-stop =
           incoming_both (get_or hs k 0) (get_or ds k 0) s.height s.distance (λ z. x.1 (x.0 ∙ z)) (sym (joined_same (get_or hs k 0) s.height x.0)) (omega (arith, st.highest)) refl;
       quiet = a.quiet;
     }))
-    (w.both zero-stop)
+    w
 
 -- ---- from one start to the next
 module _ {e : List ℕ} {k h n g t : ℕ} {hs ds : List ℕ} (st : Stands e k h n g t hs ds) (f : fault1 e k ≡ 0) (i : next e k < length e) where
@@ -261,17 +262,6 @@ module _ {e : List ℕ} {k h n g t : ℕ} {hs ds : List ℕ} (st : Stands e k h 
         low = lo;
       }
 
-pub not_concluded : {e : List ℕ} {r : Progress} → r.stop ≢ stop_accepted → Concluded e r
-not_concluded p = record { low = λ z. absurd (p z); accepts = λ z. absurd (p z); quiet = λ z. absurd (p z) }
-
-pub turns_doubt : {e : List ℕ} {k : ℕ} {r : Progress} {hs ds : List ℕ} → r.stop ≡ stop_doubt → Turns e k r hs ds
-turns_doubt p = record { later = λ z. absurd (omega arith); on = λ z. absurd (omega arith); concluded = not_concluded (omega arith) }
-
--- the state behind an instruction that raises no height: one more is counted
-abbrev progress_behind : Progress → ℕ → ℕ → ℕ → ℕ → ℕ → Progress
-progress_behind s k h d l t =
-    record { stop = stop_on; at = k; height = h; distance = d; count = s.count + 1; greatest = s.greatest; longest = l; noted = t; met = s.met; sets = s.sets }
-
 module _ {e : List ℕ} {s : Progress} {hs ds : List ℕ} (a : BranchingJoined e s hs ds) where
   -- the pass of the definition goes on
   branch_measured : s.greatest ≤ 64 → Decodes e → Aims e → {r : Carry} {hs' ds' : List ℕ} → ReachedStep e s.at s.height s.distance s.greatest s.longest r hs ds hs' ds' → r.fault ≡ 0
@@ -284,17 +274,13 @@ module _ {e : List ℕ} {s : Progress} {hs ds : List ℕ} (a : BranchingJoined e
   quiet_past p = quiet_next e s.at a.stands.start a.quiet (λ z. (z, λ y. p (ap kind y)))
 
   -- an instruction that the next start follows
-  pub turned_on : {w : HeightEffect} → GoesOn e s.at s.height s.greatest w → {q : Bool} → (q ≡ false → (s.sets ≡ false) × (class_at e s.at ≢ setv))
-      → Turns e s.at
-      (record { stop = stop_on; at = w.at; height = w.height; distance = s.distance + 1; count = s.count + 1; greatest = w.greatest; longest = s.longest; noted = s.noted; met = s.met; sets = q })
-      hs ds
+  pub turned_on : {w : Onward} → GoesOn e s.at s.height s.greatest w → {q : Bool} → (q ≡ false → (s.sets ≡ false) × (class_at e s.at ≢ setv))
+      → Turns e s.at hs ds (On (record s { at = w.at; height = w.height; distance = s.distance + 1; count = s.count + 1; greatest = w.greatest; sets = q }))
   turned_on {w} y q =
       let k : ℕ = s.at in
-      let st = a.stands in
-      record {
-        later = λ _. omega (arith, y.at_is);
-        concluded = not_concluded (omega arith);
-        on = λ _ i. rw (y.greatest_is, y.height_is, y.at_is) (let j : next e k < length e = omega (arith, y.at_is) in record {
+      let st = a.stands in (
+        omega (arith, y.at_is),
+        λ i. rw (y.greatest_is, y.height_is, y.at_is) (let j : next e k < length e = omega (arith, y.at_is) in record {
           stands = stands_next st (y.clear (omega arith)) j (λ u. (u, no_jump_low e k y.straight)) (omega arith) (omega (arith, st.lower, y.low, y.height_is)) (omega (arith, st.few_noted))
               st.heights_long st.distances_long (λ m. omega (arith, st.low m));
           near = omega (arith, a.near);
@@ -307,11 +293,11 @@ module _ {e : List ℕ} {s : Progress} {hs ds : List ℕ} (a : BranchingJoined e
               (brings_none e k s.height s.distance _ hs ds (omega (arith, y.straight)) (omega (arith, y.straight))))
               refl;
           quiet = quiet_next e k st.start a.quiet q;
-        });
-      }
+        }),
+      )
 
   -- a jump
-  module _ {n : ℕ} (b : IsJump e s.at n) {r : JumpEnd} {hs' ds' : List ℕ} (w : JumpsOn e s.at s.height s.distance s.noted hs ds r hs' ds') where
+  module _ {n : ℕ} (b : IsJump e s.at n) {r : Progress} {hs' ds' : List ℕ} (w : JumpsOn e s hs ds hs' ds' r) where
     jump_after : height_after e s.at s.height ≤ s.height
     jump_after = omega (arith, after_by e s.at s.height n 0 b.needed_is b.left_is, w.cells, b.needed_is)
 
@@ -354,17 +340,15 @@ module _ {e : List ℕ} {s : Progress} {hs ds : List ℕ} (a : BranchingJoined e
     jump_brings : (x : Carry) → Brings e s.at s.height s.distance x hs ds hs' ds'
     jump_brings x = brings_jump e s.at s.height s.distance x hs ds hs' ds' b.least b.most w.heights_are w.distances_are
 
-  pub turned_if : IsIfGoto e s.at → {r : JumpEnd} {hs' ds' : List ℕ} → JumpsOn e s.at s.height s.distance s.noted hs ds r hs' ds'
-      → Turns e s.at (progress_behind s (s.at + 3) r.height (s.distance + 1) s.longest r.noted) hs' ds'
+  pub turned_if : IsIfGoto e s.at → {r : Progress} {hs' ds' : List ℕ} → JumpsOn e s hs ds hs' ds' r → Turns e s.at hs' ds' (On r)
   turned_if c {r} {hs'} {ds'} w =
       let k : ℕ = s.at in
       let b = c.jump in
       let i : next e k < length e = omega (arith, b.next_is, w.room) in
-      record {
-        later = λ _. omega arith;
-        concluded = not_concluded (omega arith);
-        on = λ _ _. rw w.height_is
-            (subst
+      rw w.same (
+        omega arith,
+        λ _.
+            subst
             (λ (x : ℕ). Branching e (progress_behind s x (height_after e k s.height) (s.distance + 1) s.longest r.noted) hs' ds')
             b.next_is
             (record {
@@ -378,22 +362,20 @@ module _ {e : List ℕ} {s : Progress} {hs ds : List ℕ} (a : BranchingJoined e
                   (jump_effected b w (sym (off_other e k (next e k) (omega (arith, c.kind_is)) (omega (arith, c.kind_is)) refl) ∙ lt-leb (length e) (next e k) i))
                   (jump_brings b w _))
                   refl;
-            }));
-      }
+            }),
+      )
 
-  pub turned_goto : IsGoto e s.at → {r : JumpEnd} {hs' ds' : List ℕ} → JumpsOn e s.at s.height s.distance s.noted hs ds r hs' ds'
-      → {f : Flow} → Brought hs' ds' (s.at + 3) f → f.height ≤ s.greatest
-      → Turns e s.at (progress_behind s (s.at + 3) f.height f.distance s.longest r.noted) hs' ds'
-  turned_goto c {r} {hs'} {ds'} w {f} x low =
+  goto_by : IsGoto e s.at → {r : Progress} {hs' ds' : List ℕ} → JumpsOn e s hs ds hs' ds' r → (f : Progress) → f ≡ progress_behind s (s.at + 3) f.height f.distance s.longest r.noted
+      → f.height ≡ get_or hs' (s.at + 3) 0 → f.distance ≡ get_or ds' (s.at + 3) 0 → f.height < 256 → f.height ≤ s.greatest → Turns e s.at hs' ds' (On f)
+  goto_by c {r} {hs'} {ds'} w f same height distance small low =
       let k : ℕ = s.at in
       let b = c.jump in
-      let p : f.height ≡ get_or hs' (next e k) 0 = x.height_is ∙ ap (λ (i : ℕ). get_or hs' i 0) (sym b.next_is) in
-      let q : f.distance ≡ get_or ds' (next e k) 0 = x.distance_is ∙ ap (λ (i : ℕ). get_or ds' i 0) (sym b.next_is) in
-      let st : Stands e (next e k) f.height (s.count + 1) s.greatest r.noted hs' ds' = jump_stands b w low (omega (arith, x.small)) in
-      record {
-        later = λ _. omega arith;
-        concluded = not_concluded (omega arith);
-        on = λ _ _.
+      let p : f.height ≡ get_or hs' (next e k) 0 = height ∙ ap (λ (i : ℕ). get_or hs' i 0) (sym b.next_is) in
+      let q : f.distance ≡ get_or ds' (next e k) 0 = distance ∙ ap (λ (i : ℕ). get_or ds' i 0) (sym b.next_is) in
+      let st : Stands e (next e k) f.height (s.count + 1) s.greatest r.noted hs' ds' = jump_stands b w low (omega arith) in
+      rw same (
+        omega arith,
+        λ _.
             subst
             (λ (y : ℕ). Branching e (progress_behind s y f.height f.distance s.longest r.noted) hs' ds')
             b.next_is
@@ -409,8 +391,13 @@ module _ {e : List ℕ} {s : Progress} {hs ds : List ℕ} (a : BranchingJoined e
                   (record { fault_is = refl; height_is = refl; distance_is = refl; greatest_is = refl; longest_is = refl }))
                   refl)
                   p q (omega arith);
-            });
-      }
+            }),
+      )
+
+  pub turned_goto : IsGoto e s.at → {r f : Progress} {hs' ds' : List ℕ} → JumpsOn e s hs ds hs' ds' r → FromJumps hs' ds' r f → Turns e s.at hs' ds' (On f)
+  turned_goto c {r} {f} {hs'} {ds'} w x = goto_by c w f (x.same ∙ ap (λ (y : Progress). record y { height = f.height; distance = f.distance }) w.same)
+      (x.height_is ∙ ap (λ (y : Progress). get_or hs' y.at 0) w.same) (x.distance_is ∙ ap (λ (y : Progress). get_or ds' y.at 0) w.same) x.small
+      (omega (arith, x.low, ap (λ (y : Progress). y.greatest) w.same))
 
   -- an end
   module _ (x : IsEnd e s.at) where
@@ -434,19 +421,18 @@ module _ {e : List ℕ} {s : Progress} {hs ds : List ℕ} (a : BranchingJoined e
         (record { fault_is = refl; height_is = refl; distance_is = refl; greatest_is = refl; longest_is = refl }))
         refl
 
-    pub turned_end : s.at + 1 < length e → {f : Flow} → Brought hs ds (s.at + 1) f → f.height ≤ s.greatest → (y : ℕ) → y ≡ max s.longest (s.distance + 1)
-        → Turns e s.at (progress_behind s (s.at + 1) f.height f.distance y s.noted) hs ds
-    turned_end i {f} o low y z =
+    pub turned_end : s.at + 1 < length e → {f : Progress} → (y : ℕ) → y ≡ max s.longest (s.distance + 1)
+        → FromJumps hs ds (record s { at = s.at + 1; count = s.count + 1; longest = y }) f → Turns e s.at hs ds (On f)
+    turned_end i {f} y z o =
         let k : ℕ = s.at in
         let p : f.height ≡ get_or hs (next e k) 0 = o.height_is ∙ ap (λ (j : ℕ). get_or hs j 0) (sym x.next_is) in
         let q : f.distance ≡ get_or ds (next e k) 0 = o.distance_is ∙ ap (λ (j : ℕ). get_or ds j 0) (sym x.next_is) in
         let st : Stands e (next e k) f.height (s.count + 1) s.greatest s.noted hs ds
-        = stands_next a.stands end_clear (omega (arith, x.next_is)) (λ u. (u, no_jump_end e k x.kind_is)) low (omega (arith, o.small)) (omega (arith, a.stands.few_noted))
+        = stands_next a.stands end_clear (omega (arith, x.next_is)) (λ u. (u, no_jump_end e k x.kind_is)) o.low (omega (arith, o.small)) (omega (arith, a.stands.few_noted))
         a.stands.heights_long a.stands.distances_long (λ j. omega (arith, a.stands.low j)) in
-        record {
-          later = λ _. omega arith;
-          concluded = not_concluded (omega arith);
-          on = λ _ _.
+        rw o.same (
+          omega arith,
+          λ _.
               subst
               (λ (m : ℕ). Branching e (progress_behind s m f.height f.distance y s.noted) hs ds)
               x.next_is
@@ -456,8 +442,8 @@ module _ {e : List ℕ} {s : Progress} {hs ds : List ℕ} (a : BranchingJoined e
                 pending = pending_on (next e k) (omega arith) a.pending;
                 quiet = quiet_past (omega (arith, x.kind_is));
                 measuring = λ l d v. brought_in f.height f.distance (end_measured y z l d v) p q (omega arith);
-              });
-        }
+              }),
+        )
 
     module _ (last : s.at + 1 ≡ length e) (same : s.noted ≡ s.met) (low : s.greatest ≤ 64) where
       last_from : starts_from e s.at ≡ s.at ∷ []
@@ -474,57 +460,37 @@ module _ {e : List ℕ} {s : Progress} {hs ds : List ℕ} (a : BranchingJoined e
       last_accepted : (y : ℕ) → y ≡ max s.longest (s.distance + 1) → accepted (s.count + 1) s.greatest y ≡ verdict e
       last_accepted y z =
           let q : s.count + length (s.at ∷ []) ≡ length (starts e) = rw last_from at a.stands.count in
-          measure_fine (s.count + 1) s.greatest y e (pass3 one e) (measuring_end (end_measured y z low last_decodes last_aims) (omega (arith, x.next_is))) (omega arith)
+          measuring_end (end_measured y z low last_decodes last_aims) (omega (arith, x.next_is)) (s.count + 1) (omega arith)
           ∙ sym (verdict_3 e (omega (arith, a.stands.inside)) a.stands.short last_decodes last_aims)
 
       -- an end that is the last byte: accepted
-      pub concluded_last : (y h d : ℕ) → y ≡ max s.longest (s.distance + 1)
-          → Concluded e
-          (record { stop = stop_accepted; at = s.at; height = h; distance = d; count = s.count + 1; greatest = s.greatest; longest = y; noted = s.noted; met = s.met; sets = s.sets })
-      concluded_last y _ _ z = record { low = λ _. low; accepts = λ _. last_accepted y z; quiet = λ _. quiet_last e s.at a.stands.start x last a.quiet }
-
-pub turns_last : {e : List ℕ} {k : ℕ} {r : Progress} {hs ds : List ℕ} → r.stop ≡ stop_accepted → Concluded e r → Turns e k r hs ds
-turns_last p c = record { later = λ z. absurd (omega arith); on = λ z. absurd (omega arith); concluded = c }
-
--- ---- the answers of the code's functions
-module _ {c b h d m : ℕ} where
-  pub joins_first : c ≡ unreached → JoinsOr c b h d m (record { stop = stop_on; distance = d; met = m })
-  joins_first p = record { both = λ _. inl (p, refl, refl) }
-
-  pub joins_doubt : {x y : ℕ} → JoinsOr c b h d m (record { stop = stop_doubt; distance = x; met = y })
-  joins_doubt = record { both = λ z. absurd (omega arith) }
-
-  pub joins_both : {x : ℕ} → c ≡ h → c ≢ unreached → x ≡ max b d → JoinsOr c b h d m (record { stop = stop_on; distance = x; met = m + 1 })
-  joins_both p q r = record { both = λ _. inr (p, q, r, refl) }
-
-pub jumped_doubt : {e : List ℕ} {k h d t : ℕ} {hs ds : List ℕ} {r : JumpEnd} {hs' ds' : List ℕ} → r.stop ≡ stop_doubt → Jumped e k h d t hs ds r hs' ds'
-jumped_doubt p = record { on = λ z. absurd (omega arith) }
-
-pub jumped_by : {e : List ℕ} {k h d t : ℕ} {hs ds : List ℕ} {r : JumpEnd} {hs' ds' : List ℕ} (n x : ℕ) → IsJump e k n → k + 3 < length e → h ≤ 64 → n ≤ h → x ≡ operand e k → k < x → x < length e
-    → r.height ≡ h - n → (get_or hs x 0 ≡ unreached → r.noted ≡ t + 1) → (get_or hs x 0 ≢ unreached → r.noted ≡ t) → hs' ≡ arrive r.height x hs → ds' ≡ raise (d + 1) x ds
-    → Jumped e k h d t hs ds r hs' ds'
-jumped_by {e} {k} {h} {d} {t} {hs} {ds} n x b room low cells p forward inside height new old heights distances =
-    let after : h - n ≡ height_after e k h = omega (arith, after_by e k h n 0 b.needed_is b.left_is) in
-    record {
-      on = λ _. record {
-        room = room;
-        low = low;
-        cells = omega (arith, b.needed_is);
-        forward = omega arith;
-        inside = omega arith;
-        height_is = height ∙ after;
-        new = λ q. new (ap (λ (i : ℕ). get_or hs i 0) p ∙ q);
-        old = λ q. old (λ z. q (ap (λ (i : ℕ). get_or hs i 0) (sym p) ∙ z));
-        heights_are = heights ∙ ap (λ (i : ℕ). arrive i x hs) (height ∙ after) ∙ ap (λ (i : ℕ). arrive (height_after e k h) i hs) p;
-        distances_are = distances ∙ ap (λ (i : ℕ). raise (d + 1) i ds) p;
-      };
-    }
+      pub accepts_last : (y : ℕ) → y ≡ max s.longest (s.distance + 1) → Accepts e (record { answer = record { count = s.count + 1; greatest = s.greatest; longest = y }; sets = s.sets })
+      accepts_last y z = record { accepts = last_accepted y z; quiet = quiet_last e s.at a.stands.start x last a.quiet }
 
 -- the same for straight code, which has no jump: nothing is noted, and nothing is met
-module _ {e : List ℕ} {k h n g : ℕ} {x : Bool} (f : Following e k h n g x) (c : IsEnd e k) (last : k + 1 ≡ length e) (low : g ≤ 64) (short : length e ≤ 1024) where
-  pub straight_last : Straight e (record { stop = stop_accepted; at = k; height = h; count = n + 1; greatest = g; sets = x })
-  straight_last =
-      let u = unmeasured_new e 1024 short in
-      let j = joining {r = record { stop = stop_on; distance = n; met = 0 }} (branching_start short f u) (joins_first (u.no_height k f.inside)) refl in
-      let r = concluded_last j c last refl low (n + 1) 0 0 (omega arith) in
-      record { low = λ _. low; accepts = λ _. r.accepts refl; quiet = λ _. r.quiet refl; following = λ _ z. absurd (z refl) }
+pub straight_last : {e : List ℕ} {s : Stop} → Following e s → IsEnd e s.at → s.at + 1 ≡ length e → s.greatest ≤ 64
+    → Accepts e (record { answer = record { count = s.count + 1; greatest = s.greatest; longest = s.count + 1 }; sets = s.sets })
+straight_last {e} {s} f c last low =
+    let u = unmeasured_new e 1024 f.short in
+    let j = joining {r = begun s} (branching_start f u) (inl (u.no_height s.at f.inside, refl)) in
+    accepts_last j c last refl low (s.count + 1) (omega arith)
+
+-- ---- the answer of the function for a jump
+pub jumped_by : {e : List ℕ} {s r : Progress} {hs ds hs' ds' : List ℕ} (n x : ℕ) → IsJump e s.at n → s.at + 3 < length e → s.height ≤ 64 → n ≤ s.height → x ≡ operand e s.at → s.at < x
+    → x < length e → r ≡ progress_behind s (s.at + 3) (s.height - n) (s.distance + 1) s.longest r.noted
+    → (get_or hs x 0 ≡ unreached → r.noted ≡ s.noted + 1) → (get_or hs x 0 ≢ unreached → r.noted ≡ s.noted) → hs' ≡ arrive (s.height - n) x hs → ds' ≡ raise (s.distance + 1) x ds
+    → JumpsOn e s hs ds hs' ds' r
+jumped_by {e} {s} {r} {hs} {ds} n x b room low cells p forward inside same new old heights distances =
+    let after : s.height - n ≡ height_after e s.at s.height = omega (arith, after_by e s.at s.height n 0 b.needed_is b.left_is) in
+    record {
+      same = same ∙ ap (λ (i : ℕ). progress_behind s (s.at + 3) i (s.distance + 1) s.longest r.noted) after;
+      room = room;
+      low = low;
+      cells = omega (arith, b.needed_is);
+      forward = omega arith;
+      inside = omega arith;
+      new = λ q. new (ap (λ (i : ℕ). get_or hs i 0) p ∙ q);
+      old = λ q. old (λ z. q (ap (λ (i : ℕ). get_or hs i 0) (sym p) ∙ z));
+      heights_are = heights ∙ ap (λ (i : ℕ). arrive i x hs) after ∙ ap (λ (i : ℕ). arrive (height_after e s.at s.height) i hs) p;
+      distances_are = distances ∙ ap (λ (i : ℕ). raise (s.distance + 1) i ds) p;
+    }

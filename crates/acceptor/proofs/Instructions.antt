@@ -5,7 +5,6 @@ use mathlib.Core.Path.{◌≡◌, refl, ap, sym, ◌∙◌}
 use mathlib.Core.Logic.{◌≢◌, ⊎_elim}
 use Prim.Native.Nat.{ℕ, ◌+◌, ◌≤◌, ◌<◌, max}
 use native.Mathlib.Omega.{arith}
-use native.Mathlib.Decide.{ℕ_discrete}
 use lib.ListN.{get_or, length}
 use lib.Dec.{T, eqb}
 use types.Run.{OneOf}
@@ -13,16 +12,18 @@ use borrow.Author.Tests.{eqb-true}
 use Rattle.logic.proofs.Promises.{and_left, and_right}
 use Rattle.isa.specs.Classes.{opcodes, class_of, row, kind, setv, kind_ext, kind_variable, kind_plain, kind_pick, kind_goto, kind_if_goto, kind_end}
 use Rattle.isa.specs.Decode.{class_at, kind_at, next, operand, picked, needed, left}
-use Rattle.isa.proofs.Promises.{picked_pick, needed_row, left_row, needed_by, left_by, after_by}
-use Rattle.isa.specs.Joining.Rows.{IsRow}
+use Rattle.isa.proofs.Promises.{needed_row, left_row, needed_by, left_by, after_by}
 use Rattle.verdict.specs.Pass1.{fault1}
 use Rattle.verdict.proofs.Deciding.{f_plain, f_ext_some, f_variable_low}
-use Rattle.acceptor.specs.Joining.StraightCode.{stop_on, stop_doubt, stop_if_goto, stop_end, stop_goto, stop_sets, ByRow, GoesOn, IsEnd, IsJump, IsIfGoto, IsGoto, HasEffect}
-use Rattle.acceptor.specs.declared.effects.HeightEffect.{HeightEffect}
+use Rattle.acceptor.specs.Joining.Instruction.{RowLeaves, GoesOn, IsEnd, IsJump, IsIfGoto, IsGoto}
+use Rattle.acceptor.specs.declared.effects.Onward.{Onward}
 
 -- ---- the row of an arm: operand bytes o, cells needed n and left m, kind q
-abbrev Lined : ℕ → ℕ → ℕ → ℕ → ℕ → Type 0
-Lined o n m q op = IsRow op (record { operands = o; needed = n; left = m; kind = q })
+record Lined (o n m q op : ℕ) : Type 0 where
+  operands_is : o ≡ get_or (row (class_of op)) 0 0
+  needed_is : n ≡ get_or (row (class_of op)) 1 0
+  left_is : m ≡ get_or (row (class_of op)) 2 0
+  kind_is : q ≡ kind (class_of op)
 
 abbrev lined : ℕ → ℕ → ℕ → ℕ → ℕ → Bool
 lined o n m q op =
@@ -64,91 +65,56 @@ not_kind e k p z = p (ap kind z)
 not_needed : (e : List ℕ) (k : ℕ) → 0 ≡ get_or (row (class_at e k)) 1 0 → class_at e k ≢ setv
 not_needed e k p z = let q : get_or (row (class_at e k)) 1 0 ≡ 1 = ap (λ c. get_or (row c) 1 0) z in absurd (omega arith)
 
--- ---- an instruction that goes on
-module _ (e : List ℕ) (k h g : ℕ) {r : HeightEffect} where
-  effect_on : r.stop ≤ stop_doubt → (r.stop ≢ stop_doubt → GoesOn e k h g r) → class_at e k ≢ setv → HasEffect e k h g r
-  effect_on p g x = record {
-    most = omega arith;
-    on = λ z. g (omega arith);
-    if_goto = λ z. absurd (omega arith);
-    end = λ z. absurd (omega arith);
-    goto = λ z. absurd (omega arith);
-    sets = λ z. absurd (omega arith);
-    quiet = λ _ _. x;
-  }
+-- ---- an instruction that goes on, and is no setv
+abbrev Plainly : List ℕ → ℕ → ℕ → ℕ → Onward → Type 0
+Plainly e k h g r = GoesOn e k h g r × (class_at e k ≢ setv)
 
-  effect_sets : (r.stop ≢ stop_doubt → r.stop ≡ stop_sets) → (r.stop ≢ stop_doubt → GoesOn e k h g r) → HasEffect e k h g r
-  effect_sets p g = record {
-    most = elim (ℕ_discrete r.stop stop_doubt) [ yes z ↦ omega arith | no z ↦ omega (arith, p z) ];
-    on = λ z. absurd (omega (arith, p (omega arith)));
-    if_goto = λ z. absurd (omega (arith, p (omega arith)));
-    end = λ z. absurd (omega (arith, p (omega arith)));
-    goto = λ z. absurd (omega (arith, p (omega arith)));
-    sets = λ z. g (omega arith);
-    quiet = λ z y. absurd (y (p z));
-  }
-
-module _ (e : List ℕ) (k h g s o n m : ℕ) {r : HeightEffect} (w : ByRow s k h g o n m r) (few : o ≤ 8) (grows : m ≤ n + 1) where
+module _ (e : List ℕ) (k h g o n m : ℕ) {r : Onward} (w : RowLeaves k h g o n m r) (few : o ≤ 8) (grows : m ≤ n + 1) where
   goes_on_by : (q : ℕ) → o ≡ get_or (row (class_of (get_or e k 0))) 0 0 → n ≡ needed e k → m ≡ left e k → kind_at e k ≡ q → q < kind_goto
-      → (next e k ≤ length e → fault1 e k ≡ 0) → r.stop ≢ stop_doubt → GoesOn e k h g r
-  goes_on_by q po pn pm pq small f z = record {
+      → (next e k ≤ length e → fault1 e k ≡ 0) → GoesOn e k h g r
+  goes_on_by q po pn pm pq small f = record {
     clear = f;
     straight = omega arith;
-    cells = omega (arith, w.cells z);
-    at_is = w.at_is z ∙ ap (λ (x : ℕ). k + 1 + x) po;
-    height_is = w.height_is z ∙ after_by e k h n m pn pm;
-    greatest_is = w.greatest_is z ∙ ap (max g) (after_by e k h n m pn pm);
-    low = omega (arith, w.height_is z, w.cells z);
-    near = omega (arith, w.at_is z);
+    cells = omega (arith, w.cells);
+    at_is = w.at_is ∙ ap (λ (x : ℕ). k + 1 + x) po;
+    height_is = w.height_is ∙ after_by e k h n m pn pm;
+    greatest_is = w.greatest_is ∙ ap (max g) (after_by e k h n m pn pm);
+    low = omega (arith, w.height_is, w.cells);
+    near = omega (arith, w.at_is);
   }
 
-  on_or_doubt : s ≡ stop_on → r.stop ≤ stop_doubt
-  on_or_doubt p = elim (ℕ_discrete r.stop stop_doubt) [ yes z ↦ omega arith | no z ↦ omega (arith, w.either z) ]
-
   -- one whose kind is not pick: its row alone counts
-  goes_on_lined : (q : ℕ) → Lined o n m q (get_or e k 0) → q < kind_pick → (r.stop ≢ stop_doubt → next e k ≤ length e → fault1 e k ≡ 0) → r.stop ≢ stop_doubt → GoesOn e k h g r
-  goes_on_lined q l small f z =
+  goes_on_lined : (q : ℕ) → Lined o n m q (get_or e k 0) → q < kind_pick → (next e k ≤ length e → fault1 e k ≡ 0) → GoesOn e k h g r
+  goes_on_lined q l small f =
       let p : kind_at e k ≢ kind_pick = omega (arith, l.kind_is) in
-      goes_on_by q l.operands_is (needed_row e k n l.needed_is p) (left_row e k m l.left_is p) (sym l.kind_is) (omega arith) (f z) z
+      goes_on_by q l.operands_is (needed_row e k n l.needed_is p) (left_row e k m l.left_is p) (sym l.kind_is) (omega arith) f
 
-effect_plain : (e : List ℕ) (k h g o n m : ℕ) {r : HeightEffect} → ByRow stop_on k h g o n m r → o ≤ 8 → m ≤ n + 1 → Lined o n m kind_plain (get_or e k 0) → HasEffect e k h g r
-effect_plain e k h g o n m w few grows l =
-    effect_on e k h g (on_or_doubt e k h g stop_on o n m w few grows refl)
-    (goes_on_lined e k h g stop_on o n m w few grows kind_plain l (omega arith)
-    (λ _ f. sym (f_plain e k f (omega (arith, l.kind_is)) (omega (arith, l.kind_is)) (omega (arith, l.kind_is)))))
-    (not_kind e k (omega (arith, l.kind_is)))
+  effect_plain : Lined o n m kind_plain (get_or e k 0) → Plainly e k h g r
+  effect_plain l = (
+    goes_on_lined kind_plain l (omega arith)
+        (λ f. sym (f_plain e k f (omega (arith, l.kind_is)) (omega (arith, l.kind_is)) (omega (arith, l.kind_is)))),
+    not_kind e k (omega (arith, l.kind_is)),
+  )
 
-effect_ext : (e : List ℕ) (k h g : ℕ) {r : HeightEffect} → ByRow stop_on k h g 1 1 1 r → Lined 1 1 1 kind_ext (get_or e k 0) → (r.stop ≢ stop_doubt → 1 ≤ operand e k) → HasEffect e k h g r
-effect_ext e k h g w l x =
-    effect_on e k h g (on_or_doubt e k h g stop_on 1 1 1 w (omega arith) (omega arith) refl)
-    (goes_on_lined e k h g stop_on 1 1 1 w (omega arith) (omega arith) kind_ext l (omega arith) (λ z f. sym (f_ext_some e k f (sym l.kind_is) (omega (arith, x z)))))
-    (not_kind e k (omega (arith, l.kind_is)))
+effect_ext : (e : List ℕ) (k h g : ℕ) {r : Onward} → RowLeaves k h g 1 1 1 r → Lined 1 1 1 kind_ext (get_or e k 0) → 1 ≤ operand e k → Plainly e k h g r
+effect_ext e k h g w l x = (
+  goes_on_lined e k h g 1 1 1 w (omega arith) (omega arith) kind_ext l (omega arith) (λ f. sym (f_ext_some e k f (sym l.kind_is) (omega arith))),
+  not_kind e k (omega (arith, l.kind_is)),
+)
 
 -- getv, setv and tracev
-module _ (e : List ℕ) (k h g s n : ℕ) {r : HeightEffect} (w : ByRow s k h g 2 n 1 r) (l : Lined 2 n 1 kind_variable (get_or e k 0)) (x : r.stop ≢ stop_doubt → operand e k < 64) where
-  goes_on_variable : r.stop ≢ stop_doubt → GoesOn e k h g r
-  goes_on_variable = goes_on_lined e k h g s 2 n 1 w (omega arith) (omega arith) kind_variable l (omega arith) (λ z f. sym (f_variable_low e k f (sym l.kind_is) (x z)))
+goes_on_variable : (e : List ℕ) (k h g n : ℕ) {r : Onward} → RowLeaves k h g 2 n 1 r → Lined 2 n 1 kind_variable (get_or e k 0) → operand e k < 64 → GoesOn e k h g r
+goes_on_variable e k h g n w l x = goes_on_lined e k h g 2 n 1 w (omega arith) (omega arith) kind_variable l (omega arith) (λ f. sym (f_variable_low e k f (sym l.kind_is) x))
 
-  effect_variable : s ≡ stop_on → n ≡ 0 → HasEffect e k h g r
-  effect_variable p q =
-      effect_on e k h g (on_or_doubt e k h g s 2 n 1 w (omega arith) (omega arith) p) goes_on_variable (not_needed e k (sym q ∙ l.needed_is))
+effect_pick : (e : List ℕ) (k h g : ℕ) {r : Onward} → RowLeaves k h g 1 (1 + picked e k) (2 + picked e k) r → Lined 1 1 2 kind_pick (get_or e k 0) → Plainly e k h g r
+effect_pick e k h g w l = (
+  goes_on_by e k h g 1 (1 + picked e k) (2 + picked e k) w (omega arith) (omega arith) kind_pick l.operands_is (needed_by e k 1 (picked e k) l.needed_is refl)
+      (left_by e k 2 (picked e k) l.left_is refl) (sym l.kind_is) (omega arith)
+      (λ f. sym (f_plain e k f (omega (arith, l.kind_is)) (omega (arith, l.kind_is)) (omega (arith, l.kind_is)))),
+  not_kind e k (omega (arith, l.kind_is)),
+)
 
-  effect_setv : s ≡ stop_sets → HasEffect e k h g r
-  effect_setv p = effect_sets e k h g (λ z. w.either z ∙ p) goes_on_variable
-
-pub row_pick : (e : List ℕ) (k h g n : ℕ) {r : HeightEffect} → ByRow stop_on k h g 1 (1 + n) (2 + n) r → n ≡ operand e k → kind_at e k ≡ kind_pick
-    → ByRow stop_on k h g 1 (1 + picked e k) (2 + picked e k) r
-row_pick e k h g n w p q = rw (picked_pick e k n p q) at w
-
-effect_pick : (e : List ℕ) (k h g : ℕ) {r : HeightEffect} → ByRow stop_on k h g 1 (1 + picked e k) (2 + picked e k) r → Lined 1 1 2 kind_pick (get_or e k 0) → HasEffect e k h g r
-effect_pick e k h g w l =
-    effect_on e k h g (on_or_doubt e k h g stop_on 1 (1 + picked e k) (2 + picked e k) w (omega arith) (omega arith) refl)
-    (goes_on_by e k h g stop_on 1 (1 + picked e k) (2 + picked e k) w (omega arith) (omega arith) kind_pick l.operands_is (needed_by e k 1 (picked e k) l.needed_is refl)
-    (left_by e k 2 (picked e k) l.left_is refl) (sym l.kind_is) (omega arith)
-    (λ f. sym (f_plain e k f (omega (arith, l.kind_is)) (omega (arith, l.kind_is)) (omega (arith, l.kind_is)))))
-    (not_kind e k (omega (arith, l.kind_is)))
-
--- ---- an instruction behind which it does not go on by itself
+-- ---- a jump
 jump_by : (e : List ℕ) (k n q : ℕ) → kind_goto ≤ q → q ≤ kind_if_goto → Lined 2 n 0 q (get_or e k 0) → IsJump e k n
 jump_by e k n q a b l = record {
   least = omega (arith, l.kind_is);
@@ -157,42 +123,6 @@ jump_by e k n q a b l = record {
   needed_is = needed_row e k n l.needed_is (omega (arith, l.kind_is));
   left_is = left_row e k 0 l.left_is (omega (arith, l.kind_is));
 }
-
-module _ (e : List ℕ) (k h g : ℕ) {r : HeightEffect} where
-  -- one that is no variable's: what is left to say is its own
-  effect_halt : r.stop ≤ stop_goto → 1 ≤ r.stop → (r.stop ≢ stop_doubt → kind_at e k ≢ kind_variable)
-      → (r.stop ≡ stop_if_goto → IsIfGoto e k) → (r.stop ≡ stop_end → IsEnd e k) → (r.stop ≡ stop_goto → IsGoto e k) → HasEffect e k h g r
-  effect_halt p q v a b c = record {
-    most = omega arith;
-    on = λ z. absurd (omega arith);
-    if_goto = a;
-    end = b;
-    goto = c;
-    sets = λ z. absurd (omega arith);
-    quiet = λ z _. not_kind e k (v z);
-  }
-
-  effect_if_goto : r.stop ≡ stop_if_goto → Lined 2 1 0 kind_if_goto (get_or e k 0) → HasEffect e k h g r
-  effect_if_goto s l =
-      effect_halt (omega arith) (omega arith) (λ _. omega (arith, l.kind_is))
-      (λ _. record { kind_is = sym l.kind_is; jump = jump_by e k 1 kind_if_goto (omega arith) (omega arith) l })
-      (λ z. absurd (omega arith))
-      (λ z. absurd (omega arith))
-
-  effect_goto : r.stop ≡ stop_goto → Lined 2 0 0 kind_goto (get_or e k 0) → HasEffect e k h g r
-  effect_goto s l =
-      effect_halt (omega arith) (omega arith) (λ _. omega (arith, l.kind_is)) (λ z. absurd (omega arith)) (λ z. absurd (omega arith))
-      (λ _. record { kind_is = sym l.kind_is; jump = jump_by e k 0 kind_goto (omega arith) (omega arith) l })
-
-  effect_end : r.stop ≡ stop_end → Lined 0 0 0 kind_end (get_or e k 0) → HasEffect e k h g r
-  effect_end s l =
-      effect_halt (omega arith) (omega arith) (λ _. omega (arith, l.kind_is)) (λ z. absurd (omega arith))
-      (λ _. record { kind_is = sym l.kind_is; next_is = omega (arith, l.operands_is) })
-      (λ z. absurd (omega arith))
-
-  pub effect_doubt : r.stop ≡ stop_doubt → HasEffect e k h g r
-  effect_doubt s =
-      effect_halt (omega arith) (omega arith) (λ z. absurd (z s)) (λ z. absurd (omega arith)) (λ z. absurd (omega arith)) (λ z. absurd (omega arith))
 
 -- ---- the arms, each by its first opcode
 abbrev pub OpcodeAt : List ℕ → ℕ → List ℕ → Type 0
@@ -214,99 +144,100 @@ pub is_pick : (op : ℕ) → OneOf (0x32 ∷ []) op → kind (class_of op) ≡ k
 unfolding class_of opcodes
 is_pick op p = sym (these 1 1 2 kind_pick _ 0x32 ([]) tt p).kind_is
 
-module _ {e : List ℕ} {k h g : ℕ} {r : HeightEffect} where
-  pub arm_02 : ByRow stop_on k h g 0 2 1 r → OpcodeAt e k (0x02 ∷ 0x04 ∷ 0x06 ∷ 0x08 ∷ 0x0a ∷ []) → HasEffect e k h g r
+module _ {e : List ℕ} {k h g : ℕ} {r : Onward} where
+  pub arm_02 : RowLeaves k h g 0 2 1 r → OpcodeAt e k (0x02 ∷ 0x04 ∷ 0x06 ∷ 0x08 ∷ 0x0a ∷ []) → Plainly e k h g r
   unfolding class_of opcodes
   arm_02 w p = effect_plain e k h g 0 2 1 w (omega arith) (omega arith) (these 0 2 1 kind_plain _ 0x02 (0x04 ∷ 0x06 ∷ 0x08 ∷ 0x0a ∷ []) tt p)
 
-  pub arm_0f : ByRow stop_on k h g 0 2 1 r → OpcodeAt e k (0x0f ∷ 0x11 ∷ 0x13 ∷ 0x15 ∷ []) → HasEffect e k h g r
+  pub arm_0f : RowLeaves k h g 0 2 1 r → OpcodeAt e k (0x0f ∷ 0x11 ∷ 0x13 ∷ 0x15 ∷ []) → Plainly e k h g r
   unfolding class_of opcodes
   arm_0f w p = effect_plain e k h g 0 2 1 w (omega arith) (omega arith) (these 0 2 1 kind_plain _ 0x0f (0x11 ∷ 0x13 ∷ 0x15 ∷ []) tt p)
 
-  pub arm_03 : ByRow stop_on k h g 0 2 1 r → OpcodeAt e k (0x03 ∷ 0x05 ∷ 0x07 ∷ 0x09 ∷ 0x0b ∷ []) → HasEffect e k h g r
+  pub arm_03 : RowLeaves k h g 0 2 1 r → OpcodeAt e k (0x03 ∷ 0x05 ∷ 0x07 ∷ 0x09 ∷ 0x0b ∷ []) → Plainly e k h g r
   unfolding class_of opcodes
   arm_03 w p = effect_plain e k h g 0 2 1 w (omega arith) (omega arith) (these 0 2 1 kind_plain _ 0x03 (0x05 ∷ 0x07 ∷ 0x09 ∷ 0x0b ∷ []) tt p)
 
-  pub arm_10 : ByRow stop_on k h g 0 2 1 r → OpcodeAt e k (0x10 ∷ 0x14 ∷ []) → HasEffect e k h g r
+  pub arm_10 : RowLeaves k h g 0 2 1 r → OpcodeAt e k (0x10 ∷ 0x14 ∷ []) → Plainly e k h g r
   unfolding class_of opcodes
   arm_10 w p = effect_plain e k h g 0 2 1 w (omega arith) (omega arith) (these 0 2 1 kind_plain _ 0x10 (0x14 ∷ []) tt p)
 
-  pub arm_0c : ByRow stop_on k h g 0 2 0 r → OpcodeAt e k (0x0c ∷ 0x2f ∷ []) → HasEffect e k h g r
+  pub arm_0c : RowLeaves k h g 0 2 0 r → OpcodeAt e k (0x0c ∷ 0x2f ∷ []) → Plainly e k h g r
   unfolding class_of opcodes
   arm_0c w p = effect_plain e k h g 0 2 0 w (omega arith) (omega arith) (these 0 2 0 kind_plain _ 0x0c (0x2f ∷ []) tt p)
 
-  pub arm_0e : ByRow stop_on k h g 0 1 1 r → OpcodeAt e k (0x0e ∷ 0x12 ∷ 0x17 ∷ 0x19 ∷ []) → HasEffect e k h g r
+  pub arm_0e : RowLeaves k h g 0 1 1 r → OpcodeAt e k (0x0e ∷ 0x12 ∷ 0x17 ∷ 0x19 ∷ []) → Plainly e k h g r
   unfolding class_of opcodes
   arm_0e w p = effect_plain e k h g 0 1 1 w (omega arith) (omega arith) (these 0 1 1 kind_plain _ 0x0e (0x12 ∷ 0x17 ∷ 0x19 ∷ []) tt p)
 
-  pub arm_18 : ByRow stop_on k h g 0 1 1 r → OpcodeAt e k (0x18 ∷ 0x1a ∷ []) → HasEffect e k h g r
+  pub arm_18 : RowLeaves k h g 0 1 1 r → OpcodeAt e k (0x18 ∷ 0x1a ∷ []) → Plainly e k h g r
   unfolding class_of opcodes
   arm_18 w p = effect_plain e k h g 0 1 1 w (omega arith) (omega arith) (these 0 1 1 kind_plain _ 0x18 (0x1a ∷ []) tt p)
 
-  pub arm_0d : ByRow stop_on k h g 1 1 1 r → OpcodeAt e k (0x0d ∷ 0x2a ∷ []) → HasEffect e k h g r
+  pub arm_0d : RowLeaves k h g 1 1 1 r → OpcodeAt e k (0x0d ∷ 0x2a ∷ []) → Plainly e k h g r
   unfolding class_of opcodes
   arm_0d w p = effect_plain e k h g 1 1 1 w (omega arith) (omega arith) (these 1 1 1 kind_plain _ 0x0d (0x2a ∷ []) tt p)
 
-  pub arm_30 : ByRow stop_on k h g 2 1 1 r → OpcodeAt e k (0x30 ∷ []) → HasEffect e k h g r
+  pub arm_30 : RowLeaves k h g 2 1 1 r → OpcodeAt e k (0x30 ∷ []) → Plainly e k h g r
   unfolding class_of opcodes
   arm_30 w p = effect_plain e k h g 2 1 1 w (omega arith) (omega arith) (these 2 1 1 kind_plain _ 0x30 ([]) tt p)
 
-  pub arm_22 : ByRow stop_on k h g 1 0 1 r → OpcodeAt e k (0x22 ∷ []) → HasEffect e k h g r
+  pub arm_22 : RowLeaves k h g 1 0 1 r → OpcodeAt e k (0x22 ∷ []) → Plainly e k h g r
   unfolding class_of opcodes
   arm_22 w p = effect_plain e k h g 1 0 1 w (omega arith) (omega arith) (these 1 0 1 kind_plain _ 0x22 ([]) tt p)
 
-  pub arm_23 : ByRow stop_on k h g 2 0 1 r → OpcodeAt e k (0x23 ∷ 0x26 ∷ []) → HasEffect e k h g r
+  pub arm_23 : RowLeaves k h g 2 0 1 r → OpcodeAt e k (0x23 ∷ 0x26 ∷ []) → Plainly e k h g r
   unfolding class_of opcodes
   arm_23 w p = effect_plain e k h g 2 0 1 w (omega arith) (omega arith) (these 2 0 1 kind_plain _ 0x23 (0x26 ∷ []) tt p)
 
-  pub arm_24 : ByRow stop_on k h g 4 0 1 r → OpcodeAt e k (0x24 ∷ []) → HasEffect e k h g r
+  pub arm_24 : RowLeaves k h g 4 0 1 r → OpcodeAt e k (0x24 ∷ []) → Plainly e k h g r
   unfolding class_of opcodes
   arm_24 w p = effect_plain e k h g 4 0 1 w (omega arith) (omega arith) (these 4 0 1 kind_plain _ 0x24 ([]) tt p)
 
-  pub arm_25 : ByRow stop_on k h g 8 0 1 r → OpcodeAt e k (0x25 ∷ []) → HasEffect e k h g r
+  pub arm_25 : RowLeaves k h g 8 0 1 r → OpcodeAt e k (0x25 ∷ []) → Plainly e k h g r
   unfolding class_of opcodes
   arm_25 w p = effect_plain e k h g 8 0 1 w (omega arith) (omega arith) (these 8 0 1 kind_plain _ 0x25 ([]) tt p)
 
-  pub arm_28 : ByRow stop_on k h g 0 1 2 r → OpcodeAt e k (0x28 ∷ []) → HasEffect e k h g r
+  pub arm_28 : RowLeaves k h g 0 1 2 r → OpcodeAt e k (0x28 ∷ []) → Plainly e k h g r
   unfolding class_of opcodes
   arm_28 w p = effect_plain e k h g 0 1 2 w (omega arith) (omega arith) (these 0 1 2 kind_plain _ 0x28 ([]) tt p)
 
-  pub arm_29 : ByRow stop_on k h g 0 1 0 r → OpcodeAt e k (0x29 ∷ []) → HasEffect e k h g r
+  pub arm_29 : RowLeaves k h g 0 1 0 r → OpcodeAt e k (0x29 ∷ []) → Plainly e k h g r
   unfolding class_of opcodes
   arm_29 w p = effect_plain e k h g 0 1 0 w (omega arith) (omega arith) (these 0 1 0 kind_plain _ 0x29 ([]) tt p)
 
-  pub arm_2b : ByRow stop_on k h g 0 2 2 r → OpcodeAt e k (0x2b ∷ []) → HasEffect e k h g r
+  pub arm_2b : RowLeaves k h g 0 2 2 r → OpcodeAt e k (0x2b ∷ []) → Plainly e k h g r
   unfolding class_of opcodes
   arm_2b w p = effect_plain e k h g 0 2 2 w (omega arith) (omega arith) (these 0 2 2 kind_plain _ 0x2b ([]) tt p)
 
-  pub arm_33 : ByRow stop_on k h g 0 3 3 r → OpcodeAt e k (0x33 ∷ []) → HasEffect e k h g r
+  pub arm_33 : RowLeaves k h g 0 3 3 r → OpcodeAt e k (0x33 ∷ []) → Plainly e k h g r
   unfolding class_of opcodes
   arm_33 w p = effect_plain e k h g 0 3 3 w (omega arith) (omega arith) (these 0 3 3 kind_plain _ 0x33 ([]) tt p)
 
-  pub arm_16 : ByRow stop_on k h g 1 1 1 r × (r.stop ≢ stop_doubt → 1 ≤ operand e k) → OpcodeAt e k (0x16 ∷ []) → HasEffect e k h g r
+  pub arm_16 : RowLeaves k h g 1 1 1 r → 1 ≤ operand e k → OpcodeAt e k (0x16 ∷ []) → Plainly e k h g r
   unfolding class_of opcodes
-  arm_16 w p = effect_ext e k h g w.0 (these 1 1 1 kind_ext _ 0x16 [] tt p) w.1
+  arm_16 w x p = effect_ext e k h g w (these 1 1 1 kind_ext _ 0x16 [] tt p) x
 
-  pub arm_2c : ByRow stop_on k h g 2 0 1 r × (r.stop ≢ stop_doubt → operand e k < 64) → OpcodeAt e k (0x2c ∷ 0x2e ∷ []) → HasEffect e k h g r
+  pub arm_2c : RowLeaves k h g 2 0 1 r → operand e k < 64 → OpcodeAt e k (0x2c ∷ 0x2e ∷ []) → Plainly e k h g r
   unfolding class_of opcodes
-  arm_2c w p = effect_variable e k h g stop_on 0 w.0 (these 2 0 1 kind_variable _ 0x2c (0x2e ∷ []) tt p) w.1 refl refl
+  arm_2c w x p = let l = these 2 0 1 kind_variable _ 0x2c (0x2e ∷ []) tt p in (goes_on_variable e k h g 0 w l x, not_needed e k l.needed_is)
 
-  pub arm_2d : ByRow stop_sets k h g 2 1 1 r × (r.stop ≢ stop_doubt → operand e k < 64) → OpcodeAt e k (0x2d ∷ []) → HasEffect e k h g r
+  pub arm_2d : RowLeaves k h g 2 1 1 r → operand e k < 64 → OpcodeAt e k (0x2d ∷ []) → GoesOn e k h g r
   unfolding class_of opcodes
-  arm_2d w p = effect_setv e k h g stop_sets 1 w.0 (these 2 1 1 kind_variable _ 0x2d [] tt p) w.1 refl
+  arm_2d w x p = goes_on_variable e k h g 1 w (these 2 1 1 kind_variable _ 0x2d [] tt p) x
 
-  pub arm_32 : ByRow stop_on k h g 1 (1 + picked e k) (2 + picked e k) r → OpcodeAt e k (0x32 ∷ []) → HasEffect e k h g r
+  pub arm_32 : RowLeaves k h g 1 (1 + picked e k) (2 + picked e k) r → OpcodeAt e k (0x32 ∷ []) → Plainly e k h g r
   unfolding class_of opcodes
   arm_32 w p = effect_pick e k h g w (these 1 1 2 kind_pick _ 0x32 [] tt p)
 
-  pub arm_20 : r.stop ≡ stop_if_goto → OpcodeAt e k (0x20 ∷ []) → HasEffect e k h g r
+module _ {e : List ℕ} {k : ℕ} where
+  pub arm_20 : OpcodeAt e k (0x20 ∷ []) → IsIfGoto e k
   unfolding class_of opcodes
-  arm_20 s p = effect_if_goto e k h g s (these 2 1 0 kind_if_goto _ 0x20 [] tt p)
+  arm_20 p = let l = these 2 1 0 kind_if_goto _ 0x20 [] tt p in record { kind_is = sym l.kind_is; jump = jump_by e k 1 kind_if_goto (omega arith) (omega arith) l }
 
-  pub arm_21 : r.stop ≡ stop_goto → OpcodeAt e k (0x21 ∷ []) → HasEffect e k h g r
+  pub arm_21 : OpcodeAt e k (0x21 ∷ []) → IsGoto e k
   unfolding class_of opcodes
-  arm_21 s p = effect_goto e k h g s (these 2 0 0 kind_goto _ 0x21 [] tt p)
+  arm_21 p = let l = these 2 0 0 kind_goto _ 0x21 [] tt p in record { kind_is = sym l.kind_is; jump = jump_by e k 0 kind_goto (omega arith) (omega arith) l }
 
-  pub arm_27 : r.stop ≡ stop_end → OpcodeAt e k (0x27 ∷ []) → HasEffect e k h g r
+  pub arm_27 : OpcodeAt e k (0x27 ∷ []) → IsEnd e k
   unfolding class_of opcodes
-  arm_27 s p = effect_end e k h g s (these 0 0 0 kind_end _ 0x27 [] tt p)
+  arm_27 p = let l = these 0 0 0 kind_end _ 0x27 [] tt p in record { kind_is = sym l.kind_is; next_is = omega (arith, l.operands_is) }

@@ -3,94 +3,54 @@
 // first jump on.
 #![tactic(auto)]
 
-ghost use Rattle.std.specs.Prelude.{◌≡◌, ◌≢◌, ◌≤◌, length};
+ghost use Rattle.std.specs.Prelude.{◌≤◌, ◌<◌, length, IfSome};
 ghost use Rattle.sizes.specs.Sizes.{expression_most};
-ghost use Rattle.acceptor.specs.Joining.StraightCode.{Following, Straight};
-ghost use Rattle.acceptor.specs.Joining.CodeWithJumps.{Concluded};
+ghost use Rattle.acceptor.specs.Joining.StraightCode.{Following, Accepts};
 
-use isa::Stack;
+use crate::straight::Straight;
+use verdict::Accepted;
 
 mod branching;
 mod effects;
 mod straight;
 
-// How an instruction, or the pass, goes on (`stop` below): on to the next start; in doubt; at an if_goto, an end, a
-// goto; on to the next start behind a setv; accepted.
-pub const ON: u8 = 0;
-
-pub const DOUBT: u8 = 1;
-
-pub const AT_IF_GOTO: u8 = 2;
-
-pub const AT_END: u8 = 3;
-
-pub const AT_GOTO: u8 = 4;
-
-pub const SETS: u8 = 5;
-
-pub const ACCEPTED: u8 = 6;
-
-// Where the pass over straight code stopped: the offset, the height there, the instructions before it, the greatest
-// height, and whether one of them is a setv. Accepted: the last instruction is counted too.
-#[derive(Drop)]
-pub struct Stop {
-    pub stop: u8,
-    pub at: usize,
-    pub height: usize,
-    pub count: usize,
-    pub greatest: usize,
-    pub sets: bool,
-}
-
-// Where the pass over code with jumps stands: ON, DOUBT or ACCEPTED; the offset, the height and the distance that flow
-// in; the instructions before it; the greatest height; the longest walk to an end; how many targets were noted, and how
-// many of them were met as starts; whether a setv came.
+// The answer for an expression that is accepted, and whether an instruction of it is a setv.
 #[derive(Clone, Copy)]
-pub struct Progress {
-    pub stop: u8,
-    pub at: usize,
-    pub height: usize,
-    pub distance: usize,
-    pub count: usize,
-    pub greatest: usize,
-    pub longest: usize,
-    pub noted: usize,
-    pub met: usize,
+pub struct Acceptance {
+    pub answer: Accepted,
     pub sets: bool,
 }
 
-// An expression up to its first jump, or to an end that is not its last byte. Straight code is accepted here.
-pub fn accept_straight(e: &[u8]) -> Stop
+// Where the pass over straight code stands, or has stopped: the offset, the height there, the instructions before it, the
+// greatest height, and whether one of them is a setv.
+#[derive(Clone, Copy)]
+pub(crate) struct Stop {
+    pub at: usize,
+    pub height: usize,
+    pub count: usize,
+    pub greatest: usize,
+    pub sets: bool,
+}
+
+// An expression is accepted, or the pass is in doubt.
+pub fn accept(e: &[u8]) -> Option<Acceptance>
     requires { length e.now ≤ expression_most }
-    ensures { Straight e.now result }
+    ensures { IfSome result (Accepts e.now) }
 {
-    let stop = straight::follow(e);
-    if stop.stop != AT_END {
-        return stop;
-    }
-    if stop.at + 1 != e.len() {
-        return stop;
-    }
-    if Stack::DEPTH < stop.greatest {
-        return stop;
-    }
-    Stop {
-        stop: ACCEPTED,
-        at: stop.at,
-        height: stop.height,
-        count: stop.count + 1,
-        greatest: stop.greatest,
-        sets: stop.sets,
+    match straight::follow(e)? {
+        Straight::Accepted(acceptance) => Some(acceptance),
+        Straight::Branches(stop) => accept_branching(e, stop),
     }
 }
 
-// The rest of it, from there on.
-pub fn accept_branching(e: &[u8], from: Stop) -> Progress
-    requires { (length e.now ≤ expression_most) × Following e.now from.at from.height from.count from.greatest from.sets }
-    ensures { Concluded e.now result }
+// The rest of it, from its first jump on, or from an end that is not its last byte.
+fn accept_branching(e: &[u8], from: Stop) -> Option<Acceptance>
+    requires { (length e.now ≤ expression_most) × Following e.now from }
+    ensures { IfSome result (Accepts e.now) }
 {
     if e.len() <= 128 {
-        return branching::follow_short(e, from);
+        branching::follow::<128>(e, from)
+    } else {
+        branching::follow::<{ sizes::EXPRESSION_MOST }>(e, from)
     }
-    branching::follow_long(e, from)
 }

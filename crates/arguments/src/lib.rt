@@ -6,17 +6,13 @@ ghost use Rattle.std.specs.Prelude.{IfSome};
 ghost use Rattle.io.specs.Counts.{IsPrefixLen};
 
 use std::env::FillError;
-use std::num::wrapping_add_usize;
 use std::rt::Env;
 
 // How many words the whole command line has, the name of the program among them.
 fn count_all(rt: &impl Env) -> usize {
-    for place in 0..usize::MAX {
-        if let Err(FillError::NotPresent) = rt.arg(place, &mut []) {
-            return place;
-        }
-    }
-    usize::MAX
+    (0..usize::MAX)
+        .find(|&place| matches!(&rt.arg(place, &mut []), Err(FillError::NotPresent)))
+        .unwrap_or(usize::MAX)
 }
 
 // Puts the word at a place of the whole command line at the start of `word`, and answers its length; nothing where there
@@ -31,7 +27,7 @@ fn word_at(rt: &impl Env, place: usize, word: &mut [u8]) -> Option<usize>
 fn is_at(rt: &impl Env, place: usize, expected: &[u8]) -> bool {
     let mut word = [0u8; 8];
     match word_at(rt, place, &mut word) {
-        Some(n) => check::same(&word[..n], expected),
+        Some(n) => &word[..n] == expected,
         None => false,
     }
 }
@@ -48,20 +44,14 @@ fn is_separator(rt: &impl Env, place: usize) -> bool {
 // The place of the first --; where there is none, the count of all words.
 fn separator(rt: &impl Env) -> usize {
     let count = count_all(rt);
-    for place in 1..count {
-        if is_separator(rt, place) {
-            return place;
-        }
-    }
-    count
+    (1..count)
+        .find(|&place| is_separator(rt, place))
+        .unwrap_or(count)
 }
 
 // The place of the word number i, were there no --.
 fn place_of(rt: &impl Env, i: usize) -> usize {
-    if asks_status(rt) {
-        return wrapping_add_usize(i, 1);
-    }
-    i
+    i.wrapping_add(usize::from(asks_status(rt)))
 }
 
 // Whether the word number i stands behind --, so that it is no option.
@@ -71,16 +61,11 @@ pub fn is_operand(rt: &impl Env, i: usize) -> bool {
 
 // The number of the last word, and one more.
 pub fn count(rt: &impl Env) -> usize {
-    let mut count = count_all(rt);
-    if separator(rt) < count {
-        count -= 1;
-    }
-    if asks_status(rt) {
-        if 0 < count {
-            count -= 1;
-        }
-    }
+    let count = count_all(rt);
+    let has_separator = separator(rt) < count;
     count
+        .saturating_sub(usize::from(has_separator))
+        .saturating_sub(usize::from(asks_status(rt)))
 }
 
 // Puts the whole word number i at the start of `word` and answers its length; nothing where there is none, and where it is
@@ -88,15 +73,12 @@ pub fn count(rt: &impl Env) -> usize {
 pub fn whole(rt: &impl Env, i: usize, word: &mut [u8]) -> Option<usize>
     ensures { IfSome result (λ n. IsPrefixLen n word.new) }
 {
-    let mut place = place_of(rt, i);
-    if is_operand(rt, i) {
-        place = wrapping_add_usize(place, 1);
-    }
+    let place = place_of(rt, i).wrapping_add(usize::from(is_operand(rt, i)));
     word_at(rt, place, word)
 }
 
 // Puts the word number i at the start of `word` and answers its length: 0 where there is none, and where it is longer than
-// `word`.
+// `word`. The 0 stays: an empty word and none are one to every caller, which compares the word or takes its number.
 pub fn get(rt: &impl Env, i: usize, word: &mut [u8]) -> usize
     ensures { IsPrefixLen result word.new }
 {

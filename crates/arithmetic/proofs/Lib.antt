@@ -3,5 +3,4 @@ pub mod Promises
 pub mod Signs
 pub mod Shifts
 pub mod ShiftedBits
-pub mod Product
 pub mod Results

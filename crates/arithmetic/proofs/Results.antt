@@ -1,32 +1,16 @@
 -- Results are words, and what follows from the definitions alone.
-use Rattle.std.proofs.Common.{◌≡◌, ℕ, ◌-◌, ◌*◌, ◌%◌, ◌^◌, ◌<◌, ◌≤◌, Bool, true, false, eqb, ltb, ℤ, pos, negsuc, refl, lt_of_le_of_lt, div-le_self, arith, le-ltb, lt-ltb, le-leb}
+use Rattle.std.proofs.Common.{◌≡◌, ℕ, ◌-◌, ◌*◌, ◌%◌, ◌^◌, ◌<◌, ◌≤◌, Bool, true, false, eqb, ltb, refl, lt_of_le_of_lt, div-le_self, arith, le-ltb, lt-ltb, le-leb}
 use native.Mathlib.Nat.{mod-le}
 use native.Mathlib.Decide.{dec_lt}
 use lib.Bits.{and_le_l, or_lt, xor_lt}
-use lib.Signed.{mag, mag_rem, mag_shr, quot_z, rem_z, shr_z, lt_z}
+use lib.Signed.{mag_shr, shr_z, lt_z}
 use borrow.Author.Tests.{lt-leb}
 use Rattle.arithmetic.specs.Words.{signed, word, add, sub, div_signed, rem_signed, inserted, lsh, rsh_signed, rsh_unsigned, bit_and, bit_or, bit_xor, truth, log_not, equal, less_signed, less_unsigned, signed_of, ext, zero_ext}
-use Rattle.arithmetic.proofs.Signs.{by_sign, mag_quot}
+pub use Rattle.arithmetic.proofs.Signs.{div_signed_below, rem_signed_below}
+use Rattle.arithmetic.proofs.Signs.{by_sign, word_below, mag_below}
 use Rattle.arithmetic.proofs.Shifts.{ext_by, ext_same}
 
--- ---- a signed number whose magnitude is small enough has a word
-word_below : (z : ℤ) → mag z < 2 ^ 64 → word z < 2 ^ 64
-word_below (pos n) h = h
-word_below (negsuc n) h = omega arith
-
--- the magnitude of a word's signed number
-mag_below : (a : ℕ) → a < 2 ^ 64 → mag (signed a) < 2 ^ 63
-mag_below a h = by_sign a (λ z. mag z < 2 ^ 63) (λ l. l) (λ l. omega arith)
-
 module _ (a b : ℕ) (h : a < 2 ^ 64) where
-  pub div_signed_below : div_signed a b < 2 ^ 64
-  unfolding div_signed
-  div_signed_below = word_below (quot_z (signed a) (signed b)) (omega (arith, mag_quot (signed a) (signed b) {m = 2 ^ 63} (omega (arith, mag_below a h)) (λ e. mag_below a h)))
-
-  pub rem_signed_below : rem_signed a b < 2 ^ 64
-  unfolding rem_signed
-  rem_signed_below = word_below (rem_z (signed a) (signed b)) (omega (arith, mag_rem (signed a) (signed b), mag_below a h))
-
   pub rsh_signed_below : rsh_signed a b < 2 ^ 64
   unfolding rsh_signed
   rsh_signed_below = word_below (shr_z (signed a) (2 ^ inserted b)) (omega (arith, mag_shr (signed a) (2 ^ inserted b), mag_below a h))

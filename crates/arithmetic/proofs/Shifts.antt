@@ -1,5 +1,5 @@
 -- Shifts by any count, and the extensions.
-use Rattle.std.proofs.Common.{◌≡◌, ℕ, suc, ◌+◌, ◌-◌, ◌*◌, ◌/◌, ◌%◌, ◌^◌, ◌<◌, ◌≤◌, Bool, cond, sym, ap, ◌∙◌, le_refl, lt_of_lt_of_le, mul-le-mul_right, mod-lt, mod-eq_of_lt, mul_assoc, suc-mul, add-mul, mul-lt-mul_of_pos_right, one-mul, arith, pow_pos, pow_mono, pow-add, le-ltb, lt-ltb, le-leb}
+use Rattle.std.proofs.Common.{◌≡◌, ℕ, suc, ◌+◌, ◌-◌, ◌*◌, ◌/◌, ◌%◌, ◌^◌, ◌<◌, ◌≤◌, Bool, cond, min, sym, ap, ◌∙◌, le_refl, lt_of_lt_of_le, mul-le-mul_right, mod-lt, mod-eq_of_lt, mul_assoc, suc-mul, add-mul, mul-lt-mul_of_pos_right, one-mul, arith, pow_pos, pow_mono, pow-add, le-ltb, lt-ltb, le-leb}
 use native.Mathlib.Nat.{mul-mod_left, div-eq_of_lt, min-eq_left, min-eq_right}
 use native.Mathlib.Decide.{dec_lt}
 use lib.Arith.{digits_div, mod-mul}
@@ -71,8 +71,15 @@ module _ (a b : ℕ) where
   signed_out h = sym (copies a b (omega arith)) ∙ signed_any
 
   -- the greatest count that the code shifts by serves for every greater one
-  pub signed_63 : 64 ≤ b → word (shr_z (signed a) (2 ^ 63)) ≡ rsh_signed a b
-  signed_63 h = copies a 63 (le_refl 63) ∙ signed_out h
+  pub signed_63 : {k : ℕ} → k ≡ min b 63 → word (shr_z (signed a) (2 ^ k)) ≡ rsh_signed a b
+  signed_63 e =
+      elim (dec_lt b 64) [
+        | yes l ↦ ap copied (e ∙ min-eq_left (omega arith)) ∙ signed_any
+        | no l ↦ let h : 63 ≤ b = omega arith in ap copied (e ∙ min-eq_right h) ∙ copies a 63 (le_refl 63) ∙ signed_out (omega arith)
+      ]
+    where
+      copied : ℕ → ℕ
+      copied m = word (shr_z (signed a) (2 ^ m))
 
 -- ---- extension from n bits: k bits are above them
 module _ (n k : ℕ) (s : n + k ≡ 64) where

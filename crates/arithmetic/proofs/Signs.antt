@@ -1,12 +1,13 @@
 -- Signed numbers by the top bit of their words, and the operators on them. The code computes with signed integers,
 -- which the logic reads back from their words: `signed (word x)`.
-use Rattle.std.proofs.Common.{◌≡◌, ℕ, zero, suc, ◌-◌, ◌/◌, ◌%◌, ◌^◌, ◌<◌, ◌≤◌, Bool, true, false, T, ℤ, pos, negsuc, ◌-ℤ◌, neg_ℤ, nat_abs, sym, refl, ap, ◌∙◌, subst, le_refl, div-le_self, arith, w64, Fits, SFits, le-ltb, lt-ltb, leb-false}
+use Rattle.std.proofs.Common.{◌≡◌, ℕ, zero, suc, ◌-◌, ◌/◌, ◌^◌, ◌<◌, ◌≤◌, Bool, true, false, ℤ, pos, negsuc, neg_ℤ, sym, refl, ap, ◌∙◌, subst, div-le_self, arith, w64, Fits, le-ltb, lt-ltb}
+use Rattle.std.specs.Int.{from_bool}
 use native.Mathlib.Nat.{div-lt_self}
 use native.Mathlib.Decide.{dec_lt}
-use lib.Signed.{mag, mag_rem, non_neg, quot_z, rem_z, lt_z, le_z}
+use lib.Signed.{mag, mag_rem, quot_z, rem_z, lt_z}
 use mir.Val.{sel}
-use mir.ValLaws.{sfits_le, to_z-Fits, to_z-of_z, of_z-to_z}
-use Rattle.arithmetic.specs.Words.{signed, word, sub, bit_not, div_signed, rem_signed, truth, less_signed}
+use mir.ValLaws.{of_z-to_z}
+use Rattle.arithmetic.specs.Words.{signed, word, div_signed, rem_signed, truth, less_signed}
 
 -- ---- a word by its top bit
 module _ (a : ℕ) where
@@ -24,38 +25,21 @@ module _ (a : ℕ) where
         | no h ↦ let l : 2 ^ 63 ≤ a = omega arith in subst P (sym (high l)) (g l)
       ]
 
--- ---- conversions: -1 - x exchanges the signs, and fits as x does
-exchanged_pos : (n : ℕ) → negsuc 0 -ℤ pos n ≡ negsuc n
-exchanged_pos zero = refl
-exchanged_pos (suc n) = ap negsuc (omega arith)
+-- ---- a truth value as a number
+pub truth_of : (t : Bool) → from_bool t ≡ truth t
+truth_of true = refl
+truth_of false = refl
 
-exchanged_neg : (n : ℕ) → negsuc 0 -ℤ negsuc n ≡ pos n
-exchanged_neg n = rw (le-ltb (suc n) 1 (omega arith)) (ap pos (omega arith))
+-- ---- a signed number whose magnitude is small enough has a word
+pub word_below : (z : ℤ) → mag z < 2 ^ 64 → word z < 2 ^ 64
+word_below (pos n) h = h
+word_below (negsuc n) h = omega arith
 
-pub exchanged_fits : (x : ℤ) → SFits w64 x → SFits w64 (negsuc 0 -ℤ x)
-exchanged_fits (pos n) f = rw (exchanged_pos n) (record { sfits = f.sfits })
-exchanged_fits (negsuc n) f = rw (exchanged_neg n) (record { sfits = f.sfits })
-
-pub read_fits : (x : ℤ) → SFits w64 x → SFits w64 (signed (word x))
-read_fits x f = rw (to_z-of_z w64 x f) f
-
-pub signed_high : (a : ℕ) → 2 ^ 63 ≤ a → negsuc 0 -ℤ signed (bit_not a) ≡ signed a
-signed_high a h =
-    ap (λ z. negsuc 0 -ℤ z) (low (bit_not a) (omega arith)) ∙ exchanged_pos (bit_not a) ∙ ap negsuc (omega arith) ∙ sym (high a h)
-
-pub word_pos : (x : ℤ) → le_z (pos 0) x ≡ true → T (non_neg x) × (nat_abs x ≡ word x)
-word_pos (pos n) e = (tt, refl)
-word_pos (negsuc n) e = absurd (subst T (sym e) tt)
-
-pub word_neg : (x : ℤ) → le_z (pos 0) x ≡ false → T (non_neg (negsuc 0 -ℤ x)) × (bit_not (nat_abs (negsuc 0 -ℤ x)) ≡ word x)
-word_neg (pos n) e = let l : n < 0 = leb-false 0 n e in absurd (omega arith)
-word_neg (negsuc n) e = rw (exchanged_neg n) (tt, omega arith)
+-- the magnitude of a word's signed number
+pub mag_below : (a : ℕ) → a < 2 ^ 64 → mag (signed a) < 2 ^ 63
+mag_below a h = by_sign a (λ z. mag z < 2 ^ 63) (λ l. l) (λ l. omega arith)
 
 -- ---- the quotient and the remainder
-negated : (q : ℕ) → q < 2 ^ 64 → sub 0 q ≡ word (neg_ℤ (pos q))
-negated zero h = refl
-negated (suc q) h = omega arith
-
 mag_negated : (n : ℕ) → mag (neg_ℤ (pos n)) ≤ n - 1
 mag_negated zero = omega arith
 mag_negated (suc n) = omega arith
@@ -68,6 +52,18 @@ mag_quot (negsuc a) (pos b) h k = omega (arith, div-le_self (suc a) b, mag_negat
 mag_quot (negsuc a) (negsuc zero) h k = omega (arith, k refl)
 mag_quot (negsuc a) (negsuc (suc b)) h k = let l : suc a / suc (suc b) < suc a = div-lt_self (omega arith) (omega arith) in omega arith
 
+module _ (a b : ℕ) (h : a < 2 ^ 64) where
+  pub div_signed_below : div_signed a b < 2 ^ 64
+  unfolding div_signed
+  div_signed_below = word_below (quot_z (signed a) (signed b)) (omega (arith, mag_quot (signed a) (signed b) {m = 2 ^ 63} (omega (arith, mag_below a h)) (λ e. mag_below a h)))
+
+  pub rem_signed_below : rem_signed a b < 2 ^ 64
+  unfolding rem_signed
+  rem_signed_below = word_below (rem_z (signed a) (signed b)) (omega (arith, mag_rem (signed a) (signed b), mag_below a h))
+
+settled : (n : ℕ) → n < 2 ^ 64 → word (signed n) ≡ n
+settled n h = of_z-to_z w64 n (record { fits = h })
+
 -- x and y are the operands as signed integers
 module _ {a b : ℕ} (h : Fits w64 a) (k : Fits w64 b) {x y : ℤ} (p : x ≡ signed a) (q : y ≡ signed b) where
   as_a : word x ≡ a
@@ -76,42 +72,24 @@ module _ {a b : ℕ} (h : Fits w64 a) (k : Fits w64 b) {x y : ℤ} (p : x ≡ si
   as_b : word y ≡ b
   as_b = ap word q ∙ of_z-to_z w64 b k
 
-  -- what is computed of them is what the definition computes, where it fits
-  computed : (f : ℤ → ℤ → ℤ) → SFits w64 (f (signed a) (signed b)) → word (signed (word (f (signed (word x)) (signed (word y))))) ≡ word (f (signed a) (signed b))
-  computed f s = (λ i. word (signed (word (f (signed (as_a i)) (signed (as_b i)))))) ∙ ap word (to_z-of_z w64 (f (signed a) (signed b)) s)
+  pub divisible : 0 < b → 0 < word y
+  divisible g = rw as_b g
 
-  quot_fits : (b ≡ 2 ^ 64 - 1 → ⊥) → SFits w64 (quot_z (signed a) (signed b))
-  quot_fits n = sfits_le (mag_quot (signed a) (signed b) (le_refl _) (λ e. absurd (n (sym as_b ∙ ap word (q ∙ e))))) (to_z-Fits w64 a h)
-
-  pub divisible : 0 < b → (b ≡ 2 ^ 64 - 1 → ⊥) → (0 < word y) × SFits w64 (quot_z (signed (word x)) (signed (word y)))
-  divisible g n = rw (as_a, as_b) (g, quot_fits n)
-
-  pub quotient : (b ≡ 2 ^ 64 - 1 → ⊥) → word (signed (word (quot_z (signed (word x)) (signed (word y))))) ≡ div_signed a b
+  pub quotient : {z : ℤ} → z ≡ signed (word (quot_z (signed (word x)) (signed (word y)))) → word (signed (word z)) ≡ div_signed a b
   unfolding div_signed
-  quotient n = computed quot_z (quot_fits n)
+  quotient e =
+      let d = div_signed a b in
+      let l : word (signed d) ≡ d = settled d (div_signed_below a b h.fits) in
+      ap (λ (v : ℤ). word (signed (word v))) (e ∙ λ i. signed (word (quot_z (signed (as_a i)) (signed (as_b i)))))
+      ∙ ap (λ (n : ℕ). word (signed n)) l
+      ∙ l
 
-  pub remainder : word (signed (word (rem_z (signed (word x)) (signed (word y))))) ≡ rem_signed a b
+  pub remainder : {z : ℤ} → z ≡ rem_z (signed (word x)) (signed (word y)) → word (signed (word z)) ≡ rem_signed a b
   unfolding rem_signed
-  remainder = computed rem_z (sfits_le (mag_rem (signed a) (signed b)) (to_z-Fits w64 a h))
+  remainder e =
+      ap (λ (v : ℤ). word (signed (word v))) (e ∙ λ i. rem_z (signed (as_a i)) (signed (as_b i)))
+      ∙ settled (rem_signed a b) (rem_signed_below a b h.fits)
 
-  pub less : truth (lt_z (signed (word x)) (signed (word y))) ≡ less_signed a b
+  pub less : from_bool (lt_z (signed (word x)) (signed (word y))) ≡ less_signed a b
   unfolding less_signed
-  less = λ i. truth (lt_z (signed (as_a i)) (signed (as_b i)))
-
--- the divisor -1
-module _ (a b : ℕ) (e : b ≡ 2 ^ 64 - 1) where
-  pub quotient_opposite : a < 2 ^ 64 → sub 0 a ≡ div_signed a b
-  unfolding div_signed
-  quotient_opposite h =
-      rw e
-      (by_sign a (λ z. sub 0 a ≡ word (quot_z z (negsuc 0)))
-      (λ l. let d : a / 1 ≡ a = omega arith in rw d (negated a h))
-      (λ l. omega arith))
-
-  pub remainder_none : 0 ≡ rem_signed a b
-  unfolding rem_signed
-  remainder_none =
-      rw e
-      (by_sign a (λ z. 0 ≡ word (rem_z z (negsuc 0)))
-      (λ l. omega arith)
-      (λ l. let d : suc (2 ^ 64 - suc a) % 1 ≡ 0 = omega arith in rw d refl))
+  less = (λ i. from_bool (lt_z (signed (as_a i)) (signed (as_b i)))) ∙ truth_of (lt_z (signed a) (signed b))

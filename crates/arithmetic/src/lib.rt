@@ -5,58 +5,31 @@ ghost use Rattle.std.specs.Prelude.{◌≡◌, ◌^◌, ◌<◌};
 ghost use Rattle.std.specs.Int.Signed.{shr_z};
 ghost use Rattle.arithmetic.specs.Words as Words;
 
-// From here up a word stands for a negative number.
-const HALF: u64 = 0x8000_0000_0000_0000;
-
-const MINUS_ONE: u64 = 0xffff_ffff_ffff_ffff;
-
 pub fn add(a: u64, b: u64) -> u64
     ensures { result ≡ Words.add a b }
 {
-    std::num::wrapping_add_u64(a, b)
+    a.wrapping_add(b)
 }
 
 pub fn sub(a: u64, b: u64) -> u64
     ensures { result ≡ Words.sub a b }
 {
-    std::num::wrapping_sub_u64(a, b)
+    a.wrapping_sub(b)
 }
 
-// By halves of 32 bits, whose products fit a word. It compiles to one multiplication.
 pub fn mul(a: u64, b: u64) -> u64
     ensures { result ≡ Words.mul a b }
 {
-    let a_low = a % 0x1_0000_0000;
-    let a_high = a / 0x1_0000_0000;
-    let b_low = b % 0x1_0000_0000;
-    let b_high = b / 0x1_0000_0000;
-    let cross = add(a_high * b_low, a_low * b_high);
-    add(a_low * b_low, cross << 32)
+    a.wrapping_mul(b)
 }
 
-// A cast is defined only where it keeps the number: a negative number goes by -1 - x, which is not negative. Both
-// compile to nothing.
-fn signed(a: u64) -> i64
-    ensures { result ≡ Words.signed a }
-{
-    if a < HALF { a as i64 } else { -1 - !a as i64 }
-}
-
-fn word(x: i64) -> u64
-    ensures { result ≡ Words.word x }
-{
-    if x >= 0 { x as u64 } else { !((-1 - x) as u64) }
-}
-
-// The least number divided by -1 is no i64, so a divisor of -1 is apart.
+// The least number divided by -1 is no i64: its quotient wraps, to the least number.
 pub fn div_signed(a: u64, b: u64) -> u64
     requires { 0 < b }
     ensures { result ≡ Words.div_signed a b }
 {
-    if b == MINUS_ONE {
-        return sub(0, a);
-    }
-    word(signed(a) / signed(b))
+    let quotient = a.cast_signed().wrapping_div(b.cast_signed());
+    quotient.cast_unsigned()
 }
 
 pub fn div_unsigned(a: u64, b: u64) -> u64
@@ -70,10 +43,8 @@ pub fn rem_signed(a: u64, b: u64) -> u64
     requires { 0 < b }
     ensures { result ≡ Words.rem_signed a b }
 {
-    if b == MINUS_ONE {
-        return 0;
-    }
-    word(signed(a) % signed(b))
+    let remainder = a.cast_signed().wrapping_rem(b.cast_signed());
+    remainder.cast_unsigned()
 }
 
 pub fn rem_unsigned(a: u64, b: u64) -> u64
@@ -95,23 +66,19 @@ pub fn rsh_unsigned(a: u64, b: u64) -> u64
     if b < 64 { a >> b } else { 0 }
 }
 
-// A shift by less than 64 bits that copies the top bit. It compiles to one arithmetic shift.
+// A shift by less than 64 bits that copies the top bit.
 fn shift_copying(a: u64, count: u64) -> u64
     requires { count < 64 }
     ensures { result ≡ Words.word (shr_z (Words.signed a) (2 ^ count)) }
 {
-    if a < HALF { a >> count } else { !(!a >> count) }
+    (a.cast_signed() >> count).cast_unsigned()
 }
 
 // 63 leaves copies of the top bit only, and so does every greater count.
 pub fn rsh_signed(a: u64, b: u64) -> u64
     ensures { result ≡ Words.rsh_signed a b }
 {
-    if b < 64 {
-        shift_copying(a, b)
-    } else {
-        shift_copying(a, 63)
-    }
+    shift_copying(a, b.min(63))
 }
 
 pub fn bit_and(a: u64, b: u64) -> u64
@@ -138,36 +105,28 @@ pub fn bit_not(a: u64) -> u64
     !a
 }
 
-fn truth(t: bool) -> u64
-    ensures { result ≡ Words.truth t }
-{
-    if t { 1 } else { 0 }
-}
-
 pub fn log_not(a: u64) -> u64
     ensures { result ≡ Words.log_not a }
 {
-    truth(a == 0)
+    u64::from(a == 0)
 }
 
 pub fn equal(a: u64, b: u64) -> u64
     ensures { result ≡ Words.equal a b }
 {
-    truth(a == b)
+    u64::from(a == b)
 }
 
 pub fn less_signed(a: u64, b: u64) -> u64
     ensures { result ≡ Words.less_signed a b }
 {
-    let x = signed(a);
-    let y = signed(b);
-    truth(x < y)
+    u64::from(a.cast_signed() < b.cast_signed())
 }
 
 pub fn less_unsigned(a: u64, b: u64) -> u64
     ensures { result ≡ Words.less_unsigned a b }
 {
-    truth(a < b)
+    u64::from(a < b)
 }
 
 // The n low bits are shifted to the top, and back with copies of the topmost. 64 - n by its six low bits, which are all

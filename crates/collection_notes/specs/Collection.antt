@@ -1,11 +1,15 @@
 -- Whether an expression records, and which registers GDB wanted collected beside it.
-use Rattle.std.specs.Prelude.{ℕ, ◌+◌, ◌*◌, ◌/◌, ◌%◌, ◌^◌, Bool, false, cond, not, ◌&&◌, ◌||◌, List, [], ◌∷◌, eqb, get_or}
+use Rattle.std.specs.Prelude.{ℕ, ◌+◌, ◌*◌, ◌/◌, ◌%◌, ◌^◌, ◌<◌, ◌≡◌, Bool, false, cond, not, ◌&&◌, ◌||◌, List, [], ◌∷◌, eqb, length, get_or}
 use Rattle.isa.specs.Starts.{starts}
 
 -- one of ks satisfies p
 abbrev pub any_of : (ℕ → Bool) → List ℕ → Bool
 any_of p [] = false
 any_of p (k ∷ ks) = p k || any_of p ks
+
+-- what a test answers at each offset of the expression e is what p says there
+abbrev pub Tests : (ℕ → Bool → Type 0) → List ℕ → (ℕ → Bool) → Type 0
+Tests answers e p = (k : ℕ) (is : Bool) → k < length e → answers k is → is ≡ p k
 
 -- the instructions that record: trace, trace_quick, tracev, tracenz, trace16
 unfoldable pub is_tracing : ℕ → Bool

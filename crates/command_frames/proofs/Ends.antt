@@ -1,8 +1,7 @@
 -- Where frames end and where their records are: laws for the proofs of the functions of `places`. Assumes nothing.
 use Rattle.std.proofs.Common.{◌≡◌, ℕ, zero, suc, ◌+◌, ◌-◌, ◌<◌, ◌≤◌, Bool, true, false, cond, List, length, drop, sym, refl, ap, ◌∙◌, arith, length-drop, drop-drop}
 use Rattle.refusals.specs.Numbers.{buffer_bad}
-use Rattle.refusals.specs.Refusal.{refusal}
-use Rattle.refusals.specs.declared.Refusal.{Refusal}
+use Rattle.refusals.specs.Refusal.{Refusal, refusal}
 use Rattle.frames.specs.Buffer.{unfit}
 use Rattle.frames.specs.Record.{Record, memory, variable, size}
 use Rattle.frames.specs.declared.Tag.{Tag}
@@ -12,6 +11,9 @@ use Rattle.reader.specs.Framed.{FrameRead, frame_read, refused_frame, framed}
 use Rattle.reader.specs.Read.{counted, count_in, counting}
 use Rattle.reader.specs.NextRecord.{record_there, record_at, step_over, step_at, next_record, RecordsFrom, stops, goes}
 use Rattle.reader.proofs.Promises.{walked_back, located_inside, framed_located, memory_step, variable_step}
+use Rattle.reader.specs.Answers.{step_to}
+use Rattle.reader.specs.declared.Found.{Found}
+use Rattle.reader.specs.declared.Found.TheVariants.{Memory as FoundMemory, Variable as FoundVariable}
 use Rattle.command_frames.specs.Places.{behind_in}
 
 -- ---- a step of the walk, and the frame of a number
@@ -99,7 +101,13 @@ module _ (l : List ℕ) (end : ℕ) where
       let n : place + size x ≡ behind_in end (next_record l end place) = sym (ap (behind_in end) (next_told place x e) ∙ over_behind place x) in
       rw n at w
 
--- ---- the loop of `record_place`: the walk from `place` gives what is left of the records behind the first index - left
+  -- what the code is told of the record
+  pub next_behind : (place : ℕ) (x : Found) (n : ℕ) → step_to x n ≡ next_record l end place → (place < n) × (n ≡ behind_in end (next_record l end place))
+  next_behind place (FoundMemory a k p) n e = ((memory_step l end place (sym e)).0, ap (behind_in end) e)
+  next_behind place (FoundVariable i v) n e = ((variable_step l end place (sym e)).0, ap (behind_in end) e)
+
+-- ---- the loop of `record_place`: the walk from `place` gives what is left of the records behind the first
+-- index - left
 pub record Rest (l : List ℕ) (end start index place left : ℕ) : Type 0 where
   pub few : left ≤ index
   pub gives : (rs : List Record) (q : Refusal) → RecordsFrom l end start rs q → index ≤ length rs → RecordsFrom l end place (drop (index - left) rs) q

@@ -1,3 +1,2 @@
 -- The work behind the contracts of `command_frames`.
 mod Ends
-mod Refusals

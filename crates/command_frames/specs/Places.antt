@@ -1,8 +1,7 @@
 -- Where the records of a frame are, by what the reader answers.
 use Rattle.std.specs.Prelude.{ℕ, ◌+◌}
 use Rattle.reader.specs.Read.{Counted, counted, refused_count}
-use Rattle.reader.specs.declared.RecordStep.{RecordStep}
-use Rattle.reader.specs.declared.RecordStep.TheVariants.{Memory, Variable, Refused}
+use Rattle.reader.specs.NextRecord.{RecordStep, Memory, Variable, Refused}
 
 -- of a frame: nowhere, where it is refused
 abbrev pub start_in : Counted → ℕ

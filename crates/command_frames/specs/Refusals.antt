@@ -1,5 +1,5 @@
 -- What the list of frames goes by (the manual, "Showing what was recorded").
-use Rattle.std.specs.Prelude.{ℕ, cond, ◌==◌}
+use Rattle.std.specs.Prelude.{ℕ, Bool, ◌==◌}
 use Rattle.refusals.specs.Numbers.{record_broken}
 use Rattle.reader.specs.Read.{Counted, counted, refused_count}
 
@@ -8,6 +8,6 @@ abbrev pub refusal_in : Counted → ℕ
 refusal_in (counted tag start long n) = 0
 refusal_in (refused_count r) = r.number
 
--- 1 for "a frame with a broken record (23)", which "does not end the list", else 0
-unfoldable pub broken_in : Counted → ℕ
-broken_in c = cond (refusal_in c == record_broken) 1 0
+-- "a frame with a broken record (23)", which "does not end the list"
+unfoldable pub broken_in : Counted → Bool
+broken_in c = refusal_in c == record_broken

@@ -1,12 +1,12 @@
 // The command `frames`: lilivrez frames FILE [FRAME [RECORD]], and lilivrez frames FILE --gdb OUT. The file is the used
 // part of a trace buffer.
 use crate::gdb;
-use crate::show::{print_frames, print_one_frame, print_one_record};
+use crate::show::Shown;
 use console_output::{
-    Console, print_error, print_error_at, print_error_of, print_failure, refuse_option,
+    Console, ErrorPlace, print_error, print_error_at, print_error_of, print_failure, refuse_option,
 };
-use files::Loaded;
-use line_words::numbers::Number;
+use files::LoadError;
+use line_words::numbers::{Base, NumberError};
 
 // ---- the words of the command
 // What is to be shown: all frames, a frame, or a record of a frame. Or all frames are to be written for GDB.
@@ -15,31 +15,24 @@ enum Asked {
     All,
     Export,
     Frame(u64),
-    Record(u64, u64),
+    Record { frame: u64, index: u64 },
 }
 
 // The number that a word of the command is; where it is none, the error is printed. Behind -- no word is an option.
-fn read_number(console: &Console, word: &[u8], is_operand: bool) -> Number {
-    let number = line_words::numbers::unsigned(word, 10);
-    match number {
-        Number::Value(v) => Number::Value(v),
-        Number::Large => {
-            print_error_of(console, word, b"the number is too large");
-            Number::Large
-        }
-        Number::Not => {
-            if !is_operand {
-                if refuse_option(console, word) {
-                    return Number::Not;
-                }
+fn read_number(console: &Console, word: &[u8], is_operand: bool) -> Option<u64> {
+    match line_words::numbers::unsigned(word, Base::Decimal) {
+        Ok(number) => return Some(number),
+        Err(NumberError::Large) => print_error_of(console, word, b"the number is too large"),
+        Err(NumberError::Not) => {
+            if is_operand || !refuse_option(console, word) {
+                print_error_of(console, word, b"not a number from 0 on, in decimal digits");
             }
-            print_error_of(console, word, b"not a number from 0 on, in decimal digits");
-            Number::Not
         }
     }
+    None
 }
 
-fn number_at(console: &Console, i: usize) -> Number {
+fn number_at(console: &Console, i: usize) -> Option<u64> {
     let mut word = io::buffer();
     let n = arguments::get(&console.rt, i, &mut word);
     read_number(console, &word[..n], arguments::is_operand(&console.rt, i))
@@ -55,26 +48,23 @@ fn export(console: &Console, buffer: &[u8]) {
 }
 
 fn show(console: &Console, buffer: &[u8], asked: Asked) {
-    let used = buffer.len();
+    let shown = Shown { console, buffer };
     match asked {
-        Asked::All => print_frames(console, buffer, used),
+        Asked::All => shown.print_frames(),
         Asked::Export => export(console, buffer),
-        Asked::Frame(number) => print_one_frame(console, buffer, used, number),
-        Asked::Record(number, index) => print_one_record(console, buffer, used, number, index),
+        Asked::Frame(number) => shown.print_one_frame(number),
+        Asked::Record { frame, index } => shown.print_one_record(frame, index),
     }
 }
 
 fn show_file(console: &Console, name: &[u8], asked: Asked) {
     let mut bytes = io::large_buffer();
     match files::load(&console.rt, name, &mut bytes) {
-        Loaded::Bytes(n) => show(console, &bytes[0..n], asked),
-        Loaded::NotOpened(errno) => print_failure(console, name, errno),
-        Loaded::NotRead(errno) => print_failure(console, name, errno),
-        Loaded::TooLong => print_error_at(
+        Ok(n) => show(console, &bytes[..n], asked),
+        Err(LoadError::Failed(error)) => print_failure(console, name, error),
+        Err(LoadError::TooLong) => print_error_at(
             console,
-            name,
-            0,
-            0,
+            ErrorPlace::of_file(name),
             b"longer than 65536 bytes: a trace buffer is not",
         ),
     }
@@ -88,24 +78,14 @@ fn show_named(console: &Console, asked: Asked) {
     }
 }
 
-fn show_record(console: &Console, number: u64) {
-    match number_at(console, 4) {
-        Number::Value(index) => show_named(console, Asked::Record(number, index)),
-        _ => return,
+// The frame, or its record, whose numbers are words of the command; where one is none, the error is printed.
+fn asked_by(console: &Console, count: usize) -> Option<Asked> {
+    let frame = number_at(console, 3)?;
+    if count == 4 {
+        return Some(Asked::Frame(frame));
     }
-}
-
-fn show_asked(console: &Console, count: usize) {
-    match number_at(console, 3) {
-        Number::Value(number) => {
-            if count == 4 {
-                show_named(console, Asked::Frame(number));
-                return;
-            }
-            show_record(console, number);
-        }
-        _ => return,
-    }
+    let index = number_at(console, 4)?;
+    Some(Asked::Record { frame, index })
 }
 
 fn is_export(console: &Console) -> bool {
@@ -195,5 +175,7 @@ pub fn run(console: &Console) {
         show_export(console, count);
         return;
     }
-    show_asked(console, count);
+    if let Some(asked) = asked_by(console, count) {
+        show_named(console, asked);
+    }
 }

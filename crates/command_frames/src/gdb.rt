@@ -1,76 +1,74 @@
 // lilivrez frames FILE --gdb OUT: the frames as a trace file for GDB's `target tfile`, written piece by piece.
 ghost use Rattle.std.specs.Prelude.{◌≤◌};
 
-use crate::places::{place_behind, records_of};
+use crate::places::{Part, place_behind, records_of};
 use crate::show::frame_refusal;
 use console_output::{Console, print_answer, print_answer_aside, print_write_failure};
 use files::Draft;
 use phrases::numbers::append_count;
-use reader::{CountAnswer, FrameAnswer, RecordStep};
+use reader::Found;
+use refusals::Reason;
 use std::io::{Error, Write};
-use std::num::wrapping_add_u64;
-use system_errors::number_of;
+use text_buffer::TextBuffer;
 
 // ---- where the frames end
 // Puts into the table where each frame ends, from the newest on, and where the first that is refused would end. The
 // answer is how many are not refused. There are at most 8,192 frames, since a trailer has 8 bytes.
-fn find_ends(buffer: &[u8], used: usize, ends: &mut [usize; 8193]) -> usize
+fn find_ends(buffer: &[u8], ends: &mut [usize; 8193]) -> usize
     ensures { result ≤ 8192 }
 {
-    ends[0] = used;
-    let mut n = 0;
-    while n < 8192 {
+    ends[0] = buffer.len();
+    for n in 0..8192 {
         match reader::count_records(buffer, ends[n], 0) {
-            CountAnswer::Refused(refusal) => {
-                return n;
-            }
-            CountAnswer::Records(tag, start, length, records) => {
-                n += 1;
-                ends[n] = start;
-            }
+            Ok(counted) => ends[n + 1] = counted.frame.start,
+            Err(refusal) => return n,
         }
     }
-    n
+    8192
 }
 
-fn end_at(ends: &[usize; 8193], n: usize) -> usize
-    requires { n ≤ 8192 }
-{
-    ends[n]
+// The frames of a trace buffer: where each of them ends, from the newest on.
+#[derive(Clone, Copy)]
+struct Frames<'a> {
+    buffer: &'a [u8],
+    ends: &'a [usize],
 }
 
 // ---- the pieces of the file
 fn write_start(draft: &mut Draft, frames: u64) -> Result<(), Error> {
     let mut piece = [0u8; 160];
-    let n = tracefile::head::append_start(&mut piece, 0, frames);
-    draft.write_all(&piece[..n])
+    let mut text = TextBuffer::new(&mut piece);
+    tracefile::head::append_start(&mut text, frames);
+    draft.write_all(text.written())
 }
 
 fn write_variable(draft: &mut Draft, number: u64) -> Result<(), Error> {
     let mut piece = [0u8; 160];
-    let n = tracefile::head::append_variable(&mut piece, 0, number);
-    draft.write_all(&piece[..n])
-}
-
-fn write_variables(draft: &mut Draft) -> Result<(), Error> {
-    let mut number: u64 = 0;
-    while number < sizes::VARIABLE_COUNT as u64 {
-        write_variable(draft, number)?;
-        number += 1;
-    }
-    Ok(())
+    let mut text = TextBuffer::new(&mut piece);
+    tracefile::head::append_variable(&mut text, number);
+    draft.write_all(text.written())
 }
 
 fn write_target(draft: &mut Draft) -> Result<(), Error> {
     let mut piece = [0u8; 160];
-    let n = tracefile::head::append_target(&mut piece, 0);
-    draft.write_all(&piece[..n])
+    let mut text = TextBuffer::new(&mut piece);
+    tracefile::head::append_target(&mut text);
+    draft.write_all(text.written())
+}
+
+fn write_head(draft: &mut Draft, frames: u64) -> Result<(), Error> {
+    write_start(draft, frames)?;
+    for number in 0..sizes::VARIABLE_COUNT as u64 {
+        write_variable(draft, number)?;
+    }
+    write_target(draft)
 }
 
 fn write_opening(draft: &mut Draft, buffer: &[u8], end: usize) -> Result<(), Error> {
     let mut piece = [0u8; 160];
-    let n = tracefile::body::append_opening(&mut piece, 0, buffer, end);
-    draft.write_all(&piece[..n])
+    let mut text = TextBuffer::new(&mut piece);
+    tracefile::body::append_opening(&mut text, buffer, end);
+    draft.write_all(text.written())
 }
 
 // A record has fewer bytes than the trace buffer that it is read from, so that it fits the piece.
@@ -81,111 +79,43 @@ fn write_record(
     end: usize,
     place: usize,
 ) -> Result<(), Error> {
-    let n = tracefile::body::append_record(piece, 0, buffer, end, place);
-    draft.write_all(&piece[..n])
+    let mut text = TextBuffer::new(piece);
+    tracefile::body::append_record(&mut text, buffer, end, place);
+    draft.write_all(text.written())
 }
 
 fn write_records(
     draft: &mut Draft,
     piece: &mut [u8],
     buffer: &[u8],
-    start: usize,
-    end: usize,
+    part: Part,
 ) -> Result<(), Error> {
-    let mut place = start;
-    while place < end {
-        write_record(draft, piece, buffer, end, place)?;
-        place = place_behind(buffer, end, place);
+    // A place is counted by hand, here and below: a record tells only where the next one is.
+    let mut place = part.start;
+    while place < part.end {
+        write_record(draft, piece, buffer, part.end, place)?;
+        place = place_behind(buffer, part.end, place);
     }
     Ok(())
-}
-
-fn write_frame(
-    draft: &mut Draft,
-    piece: &mut [u8],
-    buffer: &[u8],
-    end: usize,
-) -> Result<(), Error> {
-    write_opening(draft, buffer, end)?;
-    let part = records_of(buffer, end);
-    write_records(draft, piece, buffer, part.start, part.end)
 }
 
 // The oldest frame comes first.
-fn write_frames(
-    draft: &mut Draft,
-    piece: &mut [u8],
-    buffer: &[u8],
-    ends: &[usize; 8193],
-    frames: usize,
-) -> Result<(), Error>
-    requires { frames ≤ 8192 }
-{
-    let mut left = frames;
-    while 0 < left {
-        left -= 1;
-        let end = end_at(ends, left);
-        write_frame(draft, piece, buffer, end)?;
+fn write_frames(draft: &mut Draft, piece: &mut [u8], frames: Frames) -> Result<(), Error> {
+    for end in frames.ends.iter().rev() {
+        write_opening(draft, frames.buffer, *end)?;
+        write_records(draft, piece, frames.buffer, records_of(frames.buffer, *end))?;
     }
     Ok(())
 }
 
-fn write_head(draft: &mut Draft, frames: u64) -> Result<(), Error> {
-    write_start(draft, frames)?;
-    write_variables(draft)?;
-    write_target(draft)
-}
-
-fn write_file(
-    draft: &mut Draft,
-    buffer: &[u8],
-    ends: &[usize; 8193],
-    frames: usize,
-) -> Result<(), Error>
-    requires { frames ≤ 8192 }
-{
-    write_head(draft, frames as u64)?;
+fn write_file(draft: &mut Draft, frames: Frames) -> Result<(), Error> {
+    write_head(draft, frames.ends.len() as u64)?;
     let mut piece = io::large_buffer();
-    write_frames(draft, &mut piece, buffer, ends, frames)?;
+    write_frames(draft, &mut piece, frames)?;
     draft.write_all(b"\x00\x00")
 }
 
 // ---- what is said of it
-// Where the file goes to standard output, on standard error.
-fn say(console: &Console, name: &[u8], text: &[u8]) {
-    if files::is_standard(name) {
-        print_answer_aside(console, text);
-        return;
-    }
-    print_answer(console, text);
-}
-
-fn say_frame(console: &Console, name: &[u8], buffer: &[u8], end: usize, number: u64) {
-    let mut line = [0u8; 160];
-    let n = frame_lines::lines::append_frame(&mut line, 0, buffer, end, number);
-    say(console, name, &line[..n]);
-}
-
-fn say_completed(console: &Console, name: &[u8], frames: u64) {
-    let mut line = [0u8; 160];
-    let n = frame_lines::lines::append_completed(&mut line, 0, frames, b"frame", 0);
-    say(console, name, &line[..n]);
-}
-
-fn note_file(console: &Console, name: &[u8]) {
-    say(
-        console,
-        name,
-        b"note: start GDB without a program: it shows a program's read-only bytes as if they were recorded
-note: find frames by tfind N alone, 0 is the oldest: tfind tracepoint, pc, range, outside go wrong
-note: after tfind none GDB still shows the variables of the last frame
-note: variables have numbers one higher in the file: $v0 is number 1, $v63 number 64
-note: of a variable that a frame recorded twice GDB shows the last value
-note: the file names the architecture i386:x86-64: none is recorded
-",
-    );
-}
-
 // How much GDB cannot show as it was recorded: frames of tracepoint 0 and of one above 32767, and records that end at
 // the last address.
 #[derive(Clone, Copy)]
@@ -195,167 +125,168 @@ struct Lost {
     last: u64,
 }
 
-fn one_if(is_met: bool) -> u64 {
-    if is_met { 1 } else { 0 }
-}
-
-fn tracepoint_of(buffer: &[u8], end: usize) -> u16 {
-    match reader::walk(buffer, end) {
-        FrameAnswer::Refused(refusal) => 1,
-        FrameAnswer::Frame(tag, start, length) => tag.tracepoint,
+impl Lost {
+    // With a frame of this tracepoint, so many of whose records end at the last address.
+    fn add(&mut self, tracepoint: u16, last: u64) {
+        self.zero = self.zero.wrapping_add(u64::from(tracepoint == 0));
+        self.large = self.large.wrapping_add(u64::from(32767 < tracepoint));
+        self.last = self.last.wrapping_add(last);
     }
 }
 
 fn ends_last(buffer: &[u8], end: usize, place: usize) -> bool {
     match reader::next_record(buffer, end, place) {
-        RecordStep::Refused(refusal) => false,
-        RecordStep::Variable(variable, value, next) => false,
-        RecordStep::Memory(address, length, bytes, next) => u64::MAX - address < length as u64,
+        Ok(found) => match found.record {
+            Found::Memory {
+                address,
+                length,
+                place,
+            } => u64::MAX - address < length as u64,
+            Found::Variable { number, value } => false,
+        },
+        Err(refusal) => false,
     }
 }
 
-fn count_last(buffer: &[u8], start: usize, end: usize) -> u64 {
+fn count_last(buffer: &[u8], part: Part) -> u64 {
     let mut count: u64 = 0;
-    let mut place = start;
-    while place < end {
-        count = wrapping_add_u64(count, one_if(ends_last(buffer, end, place)));
-        place = place_behind(buffer, end, place);
+    let mut place = part.start;
+    while place < part.end {
+        count = count.wrapping_add(u64::from(ends_last(buffer, part.end, place)));
+        place = place_behind(buffer, part.end, place);
     }
     count
 }
 
-fn with_frame(lost: Lost, tracepoint: u16, last: u64) -> Lost {
-    Lost {
-        zero: wrapping_add_u64(lost.zero, one_if(tracepoint == 0)),
-        large: wrapping_add_u64(lost.large, one_if(32767 < tracepoint)),
-        last: wrapping_add_u64(lost.last, last),
-    }
-}
-
-fn count_lost(buffer: &[u8], ends: &[usize; 8193], frames: usize) -> Lost
-    requires { frames ≤ 8192 }
-{
+fn count_lost(frames: Frames) -> Lost {
     let mut lost = Lost {
         zero: 0,
         large: 0,
         last: 0,
     };
-    let mut number = 0;
-    while number < frames {
-        let end = end_at(ends, number);
-        let part = records_of(buffer, end);
-        let last = count_last(buffer, part.start, part.end);
-        lost = with_frame(lost, tracepoint_of(buffer, end), last);
-        number += 1;
+    for end in frames.ends {
+        if let Ok(frame) = reader::walk(frames.buffer, *end) {
+            let last = count_last(frames.buffer, records_of(frames.buffer, *end));
+            lost.add(frame.tag.tracepoint, last);
+        }
     }
     lost
 }
 
-fn note(console: &Console, name: &[u8], count: u64, word: &[u8], what: &[u8]) {
-    if count == 0 {
-        return;
+// A trace file that is written: what it is called, and where what is said of it is printed.
+#[derive(Clone, Copy)]
+struct TraceFile<'a> {
+    console: &'a Console,
+    name: &'a [u8],
+}
+
+impl<'a> TraceFile<'a> {
+    // Where the file goes to standard output, on standard error.
+    fn say(self, text: &[u8]) {
+        if files::is_standard(self.name) {
+            print_answer_aside(self.console, text);
+            return;
+        }
+        print_answer(self.console, text);
     }
-    let mut line = [0u8; 120];
-    let a = text_buffer::append(&mut line, 0, b"note: ");
-    let b = append_count(&mut line, a, count, word);
-    let n = text_buffer::append(&mut line, b, what);
-    say(console, name, &line[..n]);
-}
 
-fn note_lost(console: &Console, name: &[u8], lost: Lost) {
-    note(
-        console,
-        name,
-        lost.zero,
-        b"frame",
-        b" of tracepoint 0: GDB ends its list of frames before one\n",
-    );
-    note(
-        console,
-        name,
-        lost.large,
-        b"frame",
-        b" of a tracepoint from 32768 on: GDB shows its number as negative\n",
-    );
-    note(
-        console,
-        name,
-        lost.last,
-        b"record",
-        b" up to the last address: GDB cannot show such a range\n",
-    );
-}
+    fn say_frame(self, buffer: &[u8], end: usize, number: u64) {
+        let mut line = [0u8; 160];
+        let mut text = TextBuffer::new(&mut line);
+        frame_lines::lines::append_frame(&mut text, buffer, end, number);
+        self.say(text.written());
+    }
 
-// ---- the command
-// Writes the file that is begun. The answer is 0, or the number of the system's error.
-fn write_draft(
-    console: &Console,
-    draft: Draft,
-    path: &[u8],
-    buffer: &[u8],
-    ends: &[usize; 8193],
-    frames: usize,
-) -> i32
-    requires { frames ≤ 8192 }
-{
-    let mut draft = draft;
-    match write_file(&mut draft, buffer, ends, frames) {
-        Ok(()) => files::finish(&console.rt, draft, path),
-        Err(error) => {
-            files::abandon(&console.rt, draft, path);
-            number_of(&error)
+    fn say_completed(self, frames: u64) {
+        let mut line = [0u8; 160];
+        let mut text = TextBuffer::new(&mut line);
+        frame_lines::lines::append_completed(&mut text, frames, b"frame", 0);
+        self.say(text.written());
+    }
+
+    fn note_file(self) {
+        self.say(
+            b"note: start GDB without a program: it shows a program's read-only bytes as if they were recorded
+note: find frames by tfind N alone, 0 is the oldest: tfind tracepoint, pc, range, outside go wrong
+note: after tfind none GDB still shows the variables of the last frame
+note: variables have numbers one higher in the file: $v0 is number 1, $v63 number 64
+note: of a variable that a frame recorded twice GDB shows the last value
+note: the file names the architecture i386:x86-64: none is recorded
+",
+        );
+    }
+
+    fn note(self, count: u64, word: &[u8], what: &[u8]) {
+        if count == 0 {
+            return;
+        }
+        let mut line = [0u8; 120];
+        let mut text = TextBuffer::new(&mut line);
+        text.append(b"note: ");
+        append_count(&mut text, count, word);
+        text.append(what);
+        self.say(text.written());
+    }
+
+    fn note_lost(self, lost: Lost) {
+        self.note(
+            lost.zero,
+            b"frame",
+            b" of tracepoint 0: GDB ends its list of frames before one\n",
+        );
+        self.note(
+            lost.large,
+            b"frame",
+            b" of a tracepoint from 32768 on: GDB shows its number as negative\n",
+        );
+        self.note(
+            lost.last,
+            b"record",
+            b" up to the last address: GDB cannot show such a range\n",
+        );
+    }
+
+    // ---- the command
+    // Writes the file that is begun.
+    fn write_draft(self, draft: Draft, frames: Frames) -> Result<(), Error> {
+        let mut draft = draft;
+        match write_file(&mut draft, frames) {
+            Ok(()) => files::finish(&self.console.rt, draft),
+            Err(error) => {
+                files::abandon(&self.console.rt, draft);
+                Err(error)
+            }
         }
     }
-}
 
-// Writes the file of this name. The answer is 0, or the number of the system's error.
-fn write_whole(
-    console: &Console,
-    name: &[u8],
-    buffer: &[u8],
-    ends: &[usize; 8193],
-    frames: usize,
-) -> i32
-    requires { frames ≤ 8192 }
-{
-    let mut path = io::buffer();
-    match files::begin(&console.rt, name, &mut path) {
-        Ok(draft) => write_draft(console, draft, &path, buffer, ends, frames),
-        Err(errno) => errno,
+    fn write(self, frames: Frames) -> Result<(), Error> {
+        let mut path = io::buffer();
+        let draft = files::begin(&self.console.rt, self.name, &mut path)?;
+        self.write_draft(draft, frames)
     }
-}
-
-// Whether the whole file was written; if not, the error is printed.
-fn write_named(
-    console: &Console,
-    name: &[u8],
-    buffer: &[u8],
-    ends: &[usize; 8193],
-    frames: usize,
-) -> bool
-    requires { frames ≤ 8192 }
-{
-    let errno = write_whole(console, name, buffer, ends, frames);
-    if errno != 0 {
-        print_write_failure(console, name, errno);
-        return false;
-    }
-    true
 }
 
 // Nothing is written where a frame is refused: the refusal is the answer.
 pub fn export(console: &Console, name: &[u8], buffer: &[u8]) {
-    let mut ends = [0usize; 8193];
-    let frames = find_ends(buffer, buffer.len(), &mut ends);
-    let oldest = end_at(&ends, frames);
-    if frame_refusal(buffer, oldest) != refusals::NO_SUCH_FRAME {
-        say_frame(console, name, buffer, oldest, frames as u64);
+    let mut table = [0usize; 8193];
+    let count = find_ends(buffer, &mut table);
+    let file = TraceFile { console, name };
+    if !matches!(
+        frame_refusal(buffer, table[count]),
+        Err(Reason::NoSuchFrame)
+    ) {
+        file.say_frame(buffer, table[count], count as u64);
         return;
     }
-    if !write_named(console, name, buffer, &ends, frames) {
+    let frames = Frames {
+        buffer,
+        ends: &table[..count],
+    };
+    if let Err(error) = file.write(frames) {
+        print_write_failure(console, name, error);
         return;
     }
-    note_file(console, name);
-    note_lost(console, name, count_lost(buffer, &ends, frames));
-    say_completed(console, name, frames as u64);
+    file.note_file();
+    file.note_lost(count_lost(frames));
+    file.say_completed(count as u64);
 }

@@ -9,7 +9,7 @@ fn is_steps_at(console: &Console, i: usize) -> bool {
     }
     let mut word = [0u8; 8];
     let n = arguments::get(&console.rt, i, &mut word);
-    check::same(&word[..n], b"--steps")
+    matches!(&word[..n], b"--steps")
 }
 
 // Whether the steps of each run are to be listed. The word stands before FILE.

@@ -2,7 +2,7 @@
 #![tactic(auto)]
 
 mod asked;
-mod inputs;
+mod files_read;
 mod items;
 mod outcome;
 pub mod run;

@@ -2,20 +2,41 @@
 use command_frames::show::print_frame;
 use console_output::{Console, print, print_answer};
 use frame_lines::lines::append_completed;
+use refusals::Refusal;
 use run_lines::notes::{append_discarded, append_replaced};
 use run_lines::{append_buffer, append_change, append_outcome};
-use runner::Outcome;
+use runner::Completed;
+use scenario_setting::SpanSetting;
+use text_buffer::TextBuffer;
 
-pub fn print_outcome(console: &Console, code: &[u8], outcome: Outcome) {
+// How many runs there were, and how many of them were refused.
+#[derive(Clone, Copy)]
+pub struct Tally {
+    pub runs: u64,
+    pub refused: u64,
+}
+
+impl Tally {
+    pub fn count(&mut self, is_refused: bool) {
+        self.runs = self.runs.wrapping_add(1);
+        if is_refused {
+            self.refused = self.refused.wrapping_add(1);
+        }
+    }
+}
+
+pub fn print_outcome(console: &Console, code: &[u8], outcome: Result<Completed, Refusal>) {
     let mut lines = [0u8; 200];
-    let n = append_outcome(&mut lines, 0, code, outcome);
-    print_answer(console, &lines[..n]);
+    let mut text = TextBuffer::new(&mut lines);
+    append_outcome(&mut text, code, outcome);
+    print_answer(console, text.written());
 }
 
 fn print_change(console: &Console, number: usize, before: u64, after: u64) {
     let mut lines = [0u8; 160];
-    let n = append_change(&mut lines, 0, number, before, after);
-    print(console, &lines[..n]);
+    let mut text = TextBuffer::new(&mut lines);
+    append_change(&mut text, number, before, after);
+    print(console, text.written());
 }
 
 fn print_changes(
@@ -23,19 +44,18 @@ fn print_changes(
     before: &[u64; sizes::VARIABLE_COUNT],
     after: &[u64; sizes::VARIABLE_COUNT],
 ) {
-    let mut i = 0;
-    while i < sizes::VARIABLE_COUNT {
-        if before[i] != after[i] {
-            print_change(console, i, before[i], after[i]);
+    for (number, (old, new)) in before.iter().zip(after).enumerate() {
+        if old != new {
+            print_change(console, number, *old, *new);
         }
-        i += 1;
     }
 }
 
 pub fn print_buffer(console: &Console, used: usize, size: usize) {
     let mut line = [0u8; 80];
-    let n = append_buffer(&mut line, 0, used, size);
-    print(console, &line[..n]);
+    let mut text = TextBuffer::new(&mut line);
+    append_buffer(&mut text, used, size);
+    print(console, text.written());
 }
 
 // What a completed run has left: variables that changed, the frame, the used length.
@@ -52,13 +72,14 @@ pub fn print_run(
 }
 
 // A span that was set before and had bytes.
-pub fn print_replaced(console: &Console, number: u64, word: &[u8], len: usize, first: u64) {
-    if len == 0 {
+pub fn print_replaced(console: &Console, number: u64, word: &[u8], span: SpanSetting) {
+    if span.len == 0 {
         return;
     }
     let mut line = [0u8; 120];
-    let n = append_replaced(&mut line, 0, number, word, len, first);
-    print(console, &line[..n]);
+    let mut text = TextBuffer::new(&mut line);
+    append_replaced(&mut text, number, word, span.len, span.first);
+    print(console, text.written());
 }
 
 // A trace buffer that was in use.
@@ -67,13 +88,15 @@ pub fn print_discarded(console: &Console, number: u64, word: &[u8], used: usize)
         return;
     }
     let mut line = [0u8; 120];
-    let n = append_discarded(&mut line, 0, number, word, used);
-    print(console, &line[..n]);
+    let mut text = TextBuffer::new(&mut line);
+    append_discarded(&mut text, number, word, used);
+    print(console, text.written());
 }
 
 // The last line, of a scenario that no wrong line has ended: how many runs there were, and how many were refused.
-pub fn print_completed(console: &Console, tally: &[u64; 2]) {
+pub fn print_completed(console: &Console, tally: Tally) {
     let mut line = [0u8; 120];
-    let n = append_completed(&mut line, 0, tally[0], b"run", tally[1]);
-    print(console, &line[..n]);
+    let mut text = TextBuffer::new(&mut line);
+    append_completed(&mut text, tally.runs, b"run", tally.refused);
+    print(console, text.written());
 }

@@ -1,107 +1,83 @@
 // The lines of a scenario, one after the other, up to the first that is wrong.
-ghost use Rattle.std.specs.Prelude.{◌≡◌, length};
-
 use crate::asked::file_place;
-use crate::inputs::{INPUTS_ROOM, keep};
-use crate::items::take_item;
-use crate::outcome::print_completed;
+use crate::files_read::{FilesRead, ReadBy};
+use crate::items::Scenario;
+use crate::outcome::{Tally, print_completed};
+use crate::wrong::ScenarioLine;
 use console_output::{
-    Console, is_unread, print_error, print_error_at, print_failure, refuse_option,
+    Console, ErrorPlace, is_unread, print_error, print_error_at, print_failure, refuse_option,
 };
-use files::{Input, identity, open};
-use scenario_setting::{Setting, start, stopped};
+use files::{Input, identity, open, zeros};
+use lines::{LineError, Lines};
+use scenario_setting::start;
 
 // The image and the memory have so many bytes together: a program's arrays lie on its stack, and the manual says how
 // much of it there must be.
-fn spans_buffer() -> [u8; 1572864]
-    ensures { 1572864 ≡ length result }
-{
-    [0; 1572864]
-}
+const SPANS_SIZE: usize = 1_572_864;
 
-// A line of `len` characters, of which the buffer holds all unless it is too short.
-fn take_line(
-    console: &Console,
-    name: &[u8],
-    number: u64,
-    text: &[u8],
-    len: usize,
-    setting: Setting,
-    registers: &mut [u64],
-    spans: &mut [u8],
-    variables: &mut [u64; sizes::VARIABLE_COUNT],
-    buffer: &mut [u8],
-    inputs: &mut [u64; INPUTS_ROOM],
-    tally: &mut [u64; 2],
-) -> Setting {
-    if text.len() < len {
-        print_error_at(console, name, number, 0, b"longer than 65536 characters");
-        return stopped(setting);
+// The next line could not be read, or is too long.
+fn print_line_error(console: &Console, name: &[u8], number: u64, error: LineError) {
+    match error {
+        LineError::Failed(error, _) => print_failure(console, name, error),
+        LineError::TooLong => {
+            let place = ErrorPlace {
+                name,
+                line: Some(number),
+                column: None,
+                word: b"",
+            };
+            print_error_at(console, place, b"longer than 65536 characters");
+        }
     }
-    take_item(
-        console,
-        name,
-        number,
-        &text[0..len],
-        setting,
-        registers,
-        spans,
-        variables,
-        buffer,
-        inputs,
-        tally,
-    )
 }
 
 // The number of a line also bounds the loop, for its proof.
 fn run_lines(console: &Console, input: Input, name: &[u8]) {
     let mut room = io::large_buffer();
     let mut text = io::large_buffer();
-    let mut registers = [0u64; 257];
-    let mut spans = spans_buffer();
-    let mut variables = [0u64; sizes::VARIABLE_COUNT];
-    let mut buffer = io::large_buffer();
-    let mut inputs = [0u64; INPUTS_ROOM];
-    let mut tally = [0u64; 2];
-    let mut setting = start();
-    let mut line = lines::start_of(input);
-    let mut number = 1;
-    keep(&mut inputs, identity(&console.rt, name), 0);
-    while number < u64::MAX {
-        line = lines::next(&mut room, &mut text, line);
-        if line.is_failed {
-            print_failure(console, name, line.errno);
-            return;
-        }
-        if !line.is_line {
-            break;
-        }
-        setting = take_line(
+    let mut files_read = FilesRead {
+        entries: [None; 1024],
+    };
+    files_read.keep(identity(&console.rt, name), ReadBy::Scenario);
+    let mut scenario = Scenario {
+        setting: start(),
+        registers: &mut [0; 257],
+        spans: &mut zeros::<SPANS_SIZE>(),
+        variables: &mut [0; sizes::VARIABLE_COUNT],
+        buffer: &mut io::large_buffer(),
+        files_read: &mut files_read,
+        tally: Tally {
+            runs: 0,
+            refused: 0,
+        },
+    };
+    let mut lines = Lines::new(input, &mut room);
+    for number in 1..u64::MAX {
+        let text = match lines.next(&mut text) {
+            Ok(Some(text)) => text,
+            Ok(None) => break,
+            Err(error) => {
+                print_line_error(console, name, number, error);
+                return;
+            }
+        };
+        let line = ScenarioLine {
             console,
             name,
             number,
-            &text,
-            line.len,
-            setting,
-            &mut registers,
-            &mut spans,
-            &mut variables,
-            &mut buffer,
-            &mut inputs,
-            &mut tally,
-        );
-        if setting.is_stopped || is_unread(console) {
+            text,
+        };
+        if scenario.take(line).is_err() || is_unread(console) {
             return;
         }
-        number += 1;
     }
-    print_completed(console, &tally);
+    print_completed(console, scenario.tally);
 }
 
 fn run_file(console: &Console, name: &[u8]) {
     match open(&console.rt, name) {
         Ok(input) => run_lines(console, input, name),
-        Err(errno) => print_failure(console, name, errno),
+        Err(error) => print_failure(console, name, error),
     }
 }
 

@@ -1,9 +1,9 @@
 // The answer to one expression: the verdict in a line, where it is asked for a listing, and notes on what is collected.
-ghost use Rattle.std.specs.Prelude.{◌≡◌, length};
 ghost use Rattle.io.specs.Counts.{IsPrefixLen};
 
-use crate::words::front;
+use collection_notes::{Collection, append_nothing, collects};
 use console_output::{Console, print, print_answer};
+use text_buffer::TextBuffer;
 
 // What is asked for beside the verdict: a listing; and whether the expression is meant to collect.
 #[derive(Clone, Copy)]
@@ -12,54 +12,48 @@ pub struct Asked {
     pub is_collecting: bool,
 }
 
-// Room for the longest answer (`answer_length`, on the page of `verify_lines`).
-fn text_buffer() -> [u8; 98304]
-    ensures { 98304 ≡ length result }
-{
-    [0; 98304]
-}
-
-fn is_accepted(text: &[u8]) -> bool {
-    if text.len() == 0 {
-        return false;
-    }
-    text[0] == b'a'
-}
-
-// Whether the expression was accepted.
-fn print_verdict(console: &Console, code: &[u8], is_listed: bool) -> bool {
-    let mut text = text_buffer();
-    let n = verify_lines::listed::append_answer(&mut text, 0, code, is_listed);
-    print_answer(console, &text[..n]);
-    is_accepted(&text[..n])
+// The command: where it prints, and what is asked for of each expression.
+#[derive(Clone, Copy)]
+pub struct Command<'a> {
+    pub console: &'a Console,
+    pub asked: Asked,
 }
 
 // That nothing is collected is said where a collection was asked for, and where GDB wanted a register collected.
-fn append_rest(out: &mut [u8], at: usize, code: &[u8], is_collecting: bool) -> usize
-    ensures { IsPrefixLen result out.new }
+fn append_rest(text: &mut TextBuffer, code: &[u8], is_collecting: bool)
+    ensures { IsPrefixLen text.new.end text.new.bytes.now }
 {
-    if collection_notes::collects(code) {
-        return text_buffer::append(out, at, b"");
+    if !collects(code) && (is_collecting || text.end != 0) {
+        append_nothing(text);
+        return;
     }
-    if is_collecting {
-        return collection_notes::append_nothing(out, at);
-    }
-    if at == 0 {
-        return text_buffer::append(out, at, b"");
-    }
-    collection_notes::append_nothing(out, at)
+    text.append(b"");
 }
 
-fn print_notes<'a>(console: &Console, code: &'a [u8], mask: &'a [u8], is_collecting: bool) {
-    let mut text = io::large_buffer();
-    let n = collection_notes::append_registers(&mut text, 0, mask, code, is_collecting);
-    let m = append_rest(&mut text, n, code, is_collecting);
-    print(console, front(&text, m));
-}
+impl Command<'_> {
+    // Whether the expression was accepted. The buffer has room for the longest answer (`answer_length`, on the page of
+    // `verify_lines`).
+    fn print_verdict(self, code: &[u8]) -> bool {
+        let mut room = [0u8; 98304];
+        let mut text = TextBuffer::new(&mut room);
+        verify_lines::listed::append_answer(&mut text, code, self.asked.is_listed);
+        print_answer(self.console, text.written());
+        text.written().starts_with(b"a")
+    }
 
-// The mask is GDB's, of the registers that it wants; empty where there is none.
-pub fn answer<'a>(console: &Console, code: &'a [u8], mask: &'a [u8], asked: Asked) {
-    if print_verdict(console, code, asked.is_listed) {
-        print_notes(console, code, mask, asked.is_collecting);
+    fn print_notes(self, code: &[u8], mask: &[u8]) {
+        let mut room = io::large_buffer();
+        let mut text = TextBuffer::new(&mut room);
+        let is_all = self.asked.is_collecting;
+        Collection { code, mask, is_all }.append_registers(&mut text);
+        append_rest(&mut text, code, is_all);
+        print(self.console, text.written());
+    }
+
+    // The mask is GDB's, of the registers that it wants; empty where there is none.
+    pub fn answer(self, code: &[u8], mask: &[u8]) {
+        if self.print_verdict(code) {
+            self.print_notes(code, mask);
+        }
     }
 }

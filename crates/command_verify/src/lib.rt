@@ -3,5 +3,7 @@
 
 mod answer;
 mod from_gdb;
+mod input;
+mod source;
 pub mod verify;
 mod words;

@@ -55,10 +55,7 @@ fn tell_error(console: &Console) {
 }
 
 fn is_refused(text: &[u8]) -> bool {
-    if text.len() < 7 {
-        return false;
-    }
-    check::same(&text[0..7], b"refused")
+    text.starts_with(b"refused")
 }
 
 // ---- errors
@@ -104,36 +101,27 @@ fn print_place(console: &Console, word: &[u8], number: u64) {
 
 // The name of a file that is read: - is standard input.
 fn print_name(console: &Console, name: &[u8]) {
-    if check::same(name, b"-") {
-        print_aside(console, b"standard input");
-        return;
+    match name {
+        b"-" => print_aside(console, b"standard input"),
+        _ => print_aside(console, name),
     }
-    print_aside(console, name);
 }
 
 fn visible(c: u8) -> u8 {
-    if c < b' ' {
-        return b'?';
+    match c {
+        b' '..=b'~' => c,
+        _ => b'?',
     }
-    if b'~' < c {
-        return b'?';
-    }
-    c
 }
 
 // The start of a word, with ? for what is not printable ASCII.
 fn show(word: &[u8], shown: &mut [u8]) -> usize
     ensures { IsPrefixLen result shown.new }
 {
-    let mut n = 0;
-    while n < word.len() {
-        if n >= shown.len() {
-            break;
-        }
-        shown[n] = visible(word[n]);
-        n += 1;
+    for (to, c) in shown.iter_mut().zip(word) {
+        *to = visible(*c);
     }
-    n
+    shown.len().min(word.len())
 }
 
 // : 'WORD', at most 40 characters of it; .. stands behind where there are more.
@@ -148,41 +136,51 @@ fn print_quoted(console: &Console, word: &[u8]) {
     }
 }
 
-// error: NAME, line N, column M: 'WORD': without what follows, which the caller prints.
-fn print_start(console: &Console, name: &[u8], line: u64, column: u64, word: &[u8]) {
+// Where something is wrong: the name of a file that is read, where - is standard input; line and column, counted from
+// 1, where they are known; and what was not understood, which may be empty.
+#[derive(Clone, Copy)]
+pub struct ErrorPlace<'a> {
+    pub name: &'a [u8],
+    pub line: Option<u64>,
+    pub column: Option<u64>,
+    pub word: &'a [u8],
+}
+
+impl<'a> ErrorPlace<'a> {
+    // No place in the file is meant, but the file.
+    pub fn of_file(name: &'a [u8]) -> ErrorPlace<'a> {
+        ErrorPlace {
+            name,
+            line: None,
+            column: None,
+            word: b"",
+        }
+    }
+}
+
+// error: NAME, line N, column M: 'WORD': without what follows, which the caller prints. What is not known is left out,
+// and so is an empty word.
+fn print_start(console: &Console, place: ErrorPlace) {
     tell_error(console);
     print_aside(console, b"error: ");
-    print_name(console, name);
-    if line != 0 {
+    print_name(console, place.name);
+    if let Some(line) = place.line {
         print_place(console, b", line ", line);
     }
-    if column != 0 {
+    if let Some(column) = place.column {
         print_place(console, b", column ", column);
     }
-    if word.len() != 0 {
-        print_quoted(console, word);
+    if !place.word.is_empty() {
+        print_quoted(console, place.word);
     }
     print_aside(console, b": ");
 }
 
-// error: NAME, line N, column M: 'WORD': WHY. NAME is a file that is read, where - is standard input; WORD is what was
-// not understood. Line and column are counted from 1; where one is 0 it is left out, and so is an empty word.
-pub fn print_error_word(
-    console: &Console,
-    name: &[u8],
-    line: u64,
-    column: u64,
-    word: &[u8],
-    why: &[u8],
-) {
-    print_start(console, name, line, column, word);
+// error: NAME, line N, column M: 'WORD': WHY
+pub fn print_error_at(console: &Console, place: ErrorPlace, why: &[u8]) {
+    print_start(console, place);
     print_aside(console, why);
     print_aside(console, b"\n");
-}
-
-// error: NAME, line N, column M: WHY
-pub fn print_error_at(console: &Console, name: &[u8], line: u64, column: u64, why: &[u8]) {
-    print_error_word(console, name, line, column, b"", why);
 }
 
 // ---- answers
@@ -224,13 +222,7 @@ pub fn print_answer_aside(console: &Console, text: &[u8]) {
 pub fn refuse_option(console: &Console, word: &[u8]) -> bool
     ensures { result ≡ is_option word.now }
 {
-    if word.len() < 2 {
-        return false;
-    }
-    if word[0] != b'-' {
-        return false;
-    }
-    if word[1] != b'-' {
+    if !matches!(word, [b'-', b'-', ..]) {
         return false;
     }
     print_error_of(

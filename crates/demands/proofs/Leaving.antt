@@ -8,7 +8,7 @@ use native.Mathlib.Decide.{ℕ_discrete}
 use lib.ListN.{length, length-append}
 use Rattle.encoding.specs.Written.{written_at}
 use Rattle.sizes.specs.Sizes.{buffer_most}
-use Rattle.refusals.specs.declared.Refusal.{Refusal}
+use Rattle.refusals.specs.Refusal.{Refusal}
 use Rattle.memory.specs.Spans.{Target, spans_refusal}
 use Rattle.frames.specs.Record.{Record, encode_all}
 use Rattle.frames.specs.Trailer.{tag_of}

@@ -4,7 +4,8 @@
 -- `reading`, `counting`, `located`, `walked`, `next_record` and `RecordsFrom` (reader), `RunNumbers` (lilivrez_agent),
 -- and this crate's specs/.
 use mathlib.Core.Bool.{false}
-use mathlib.Core.List.{List, ◌∷◌, ◌++◌}
+use Rattle.std.specs.Prelude.{Result, IfOk, OnErr}
+use mathlib.Core.List.{List, [], ◌∷◌, ◌++◌}
 use mathlib.Core.Logic.{◌↔◌, ◌≢◌}
 use mathlib.Core.Path.{◌≡◌, sym, ap, ◌∙◌}
 use Prim.Native.Nat.{ℕ, suc, ◌+◌, ◌≤◌, ◌<◌}
@@ -14,9 +15,10 @@ use lib.Dec.{T}
 use Rattle.logic.specs.Tests.{member}
 use Rattle.encoding.specs.Written.{written_at}
 use Rattle.encoding.specs.Ranges.{AllBytes, AllWords}
-use Rattle.refusals.specs.Numbers.{allowance_spent, no_such_record}
+use Rattle.refusals.specs.Numbers.{allowance_spent, no_such_record, number_or_0}
 use Rattle.refusals.specs.Refusal.{refusal}
-use Rattle.memory.specs.Spans.{target}
+use Rattle.refusals.specs.declared.Refusal as code
+use Rattle.memory.specs.Spans.{target, target_of}
 use Rattle.memory.specs.Fetch.{fetch_refusal, fetched, InTarget, target_byte}
 use Rattle.frames.specs.Record.{Record, memory, encode_all, AllWellFormed}
 use Rattle.frames.specs.declared.Tag.{Tag}
@@ -24,24 +26,24 @@ use Rattle.frames.specs.Trailer.{tag_of}
 use Rattle.verdict.specs.Verdict.{accepted, verdict, verdict_of, SetsNothing}
 use Rattle.verdict.specs.Acceptance.{MostIs}
 use Rattle.verdict.proofs.Promises as verifying
-use Rattle.machine.specs.Given.{Given, given}
+use Rattle.machine.specs.Given.{Given, given, given_by}
 use Rattle.machine.specs.Run.{ended, default_allowance, number_of, steps_of, used_of, variables_of, buffer_of}
 use Rattle.machine.specs.Recorded.{AllFromTarget, records_of, frame_of}
 use Rattle.machine.proofs.Promises as machine
 use Rattle.runner.specs.Returned.{Ran}
-use Rattle.runner.specs.declared.Outcome.{Outcome}
+use Rattle.runner.specs.declared.Completed.{Completed}
 use Rattle.reader.specs.Located.{located, walked, place_after}
 use Rattle.reader.specs.Framed.{frame_read, framed}
 use Rattle.reader.specs.Read.{memory_read, refused_read, told, reading, counted, counting}
 use Rattle.reader.specs.NextRecord.{next_record, RecordsFrom}
-use Rattle.reader.specs.Answers.{located_of, read_of, counted_of}
+use Rattle.reader.specs.Answers.{located_of, read_of, counted_of, step_of}
 use Rattle.reader.proofs.Promises as reader
 use Rattle.version.specs.Version.{version_number}
 use Rattle.lilivrez_verifier.specs.VerdictNumbers as verifier
 use Rattle.lilivrez_agent.specs.Lent.{lent_at, fetch_values}
 use Rattle.lilivrez_agent.specs.RunValues.{run_values, RunNumbers}
 use Rattle.lilivrez_frames.specs.FrameValues.{read_number_of, read_values, count_number, count_values, locate_number, locate_values, walk_values, step_number, step_values}
-use Rattle.demands.specs.Entry.{Answers, Exports}
+use Rattle.demands.specs.Entry.{Answers, Exports, Lends}
 use Rattle.demands.specs.Refusals.{Entry, numbers_of, Gives}
 use Rattle.demands.specs.Stored.{steps_in, used_in, number_told, values_told}
 use Rattle.demands.proofs.Numbers as numbers
@@ -98,14 +100,14 @@ use Rattle.reader.specs.contracts.locate as locate
 use Rattle.reader.proofs.locate as locate_proof
 use Rattle.reader.specs.contracts.walk as walk
 use Rattle.reader.proofs.walk as walk_proof
-use Rattle.walker.specs.contracts.new as walker_new
-use Rattle.walker.proofs.new as walker_new_proof
-use Rattle.walker.specs.contracts.step as walker_step
-use Rattle.walker.proofs.step as walker_step_proof
+use Rattle.walker.specs.contracts.Walker.new as walker_new
+use Rattle.walker.proofs.Walker.new as walker_new_proof
+use Rattle.walker.specs.contracts.Walker.step as walker_step
+use Rattle.walker.proofs.Walker.step as walker_step_proof
 
 -- ==== Demand 1
 -- "Every entry point answers on any bytes, spans, registers, buffer and step allowance, and refuses bad ones itself."
--- `Answers` and `Exports` (specs/Entry.antt): whatever the function is called with, nothing is asked of the caller, it
+-- `Answers`, `Exports` and `Lends` (specs/Entry.antt): whatever the function is called with, nothing is asked of the caller, it
 -- ends, and what stands here holds of its arguments in their order, its answer r, and its arguments as it leaves them.
 -- `now` is what a slice or a reference holds.
 module _ {M : Type 1} where
@@ -186,26 +188,24 @@ module _ {M : Type 1} where
       (λ _ (expression, _) r _. (verdict_of r.answer ≡ verdict expression.now) × (r.sets ≡ false → SetsNothing expression.now))
   verify_noting_answers = verify_noting_proof.Met.met
 
-  pub fetch_answers : Answers M fetch.ended fetch_proof.Symbol.name fetch_proof.Symbol.code
-      (λ _ (image-first, (image, (work-first, (work, (address, (size, _)))))) r _. r.now ≡ fetched (target image-first image.now work-first work.now) address size)
+  pub fetch_answers : Lends M fetch.ended fetch_proof.Symbol.name fetch_proof.Symbol.code
+      (λ _ (target, (address, (size, _))) r _. number_or_0 r ≡ fetch_refusal (target_of target) address size)
+      (λ _ (target, (address, (size, _))) r _. IfOk r (λ part. part.now ≡ fetched (target_of target) address size))
+      (λ _ (target, (address, (size, _))) r _. OnErr r (fetched (target_of target) address size ≡ []))
   fetch_answers = fetch_proof.Met.met
 
   pub fetch_refusal_answers : Answers M fetch_refusal_of.ended fetch_refusal_of_proof.Symbol.name fetch_refusal_of_proof.Symbol.code
-      (λ _ (image-first, (image, (work-first, (work, (address, (size, _)))))) r _. r ≡ fetch_refusal (target image-first image.now work-first work.now) address size)
+      (λ _ (target, (address, (size, _))) r _. number_or_0 r ≡ fetch_refusal (target_of target) address size)
   fetch_refusal_answers = fetch_refusal_of_proof.Met.met
 
   pub run_answers : Answers M run.ended run_proof.Symbol.name run_proof.Symbol.code
-      (λ _ (expression, (registers, (image-first, (image, (work-first, (work, (variables, (buffer, (used, (tracepoint, (allowance, _)))))))))))
-      r (_, (_, (_, (_, (_, (_, (variables', (buffer', _))))))))
-      . Ran (given expression.now registers.now variables.now (target image-first image.now work-first work.now) tracepoint buffer.now used allowance)
-      r variables'.now buffer'.now)
+      (λ _ (inputs, (variables, (buffer, (allowance, _)))) r (_, (variables', (buffer', _)))
+      . Ran (given_by inputs variables.now buffer.now allowance) r variables'.now buffer'.now)
   run_answers = run_proof.Met.met
 
   pub run_default_answers : Answers M run_default.ended run_default_proof.Symbol.name run_default_proof.Symbol.code
-      (λ _ (expression, (registers, (image-first, (image, (work-first, (work, (variables, (buffer, (used, (tracepoint, _))))))))))
-      r (_, (_, (_, (_, (_, (_, (variables', (buffer', _))))))))
-      . Ran (given expression.now registers.now variables.now (target image-first image.now work-first work.now) tracepoint buffer.now used default_allowance)
-      r variables'.now buffer'.now)
+      (λ _ (inputs, (variables, (buffer, _))) r (_, (variables', (buffer', _)))
+      . Ran (given_by inputs variables.now buffer.now default_allowance) r variables'.now buffer'.now)
   run_default_answers = run_default_proof.Met.met
 
   pub read_answers : Answers M read.ended read_proof.Symbol.name read_proof.Symbol.code (λ _ (buffer, (used, (frame, (index, _)))) r _. read_of r ≡ reading buffer.now used frame index)
@@ -220,7 +220,7 @@ module _ {M : Type 1} where
   pub walk_answers : Answers M walk.ended walk_proof.Symbol.name walk_proof.Symbol.code (λ _ (buffer, (place, _)) r _. located_of r ≡ walked buffer.now place)
   walk_answers = walk_proof.Met.met
 
-  pub next_record_answers : Answers M next_record_of.ended next_record_of_proof.Symbol.name next_record_of_proof.Symbol.code (λ _ (buffer, (end, (place, _))) r _. r ≡ next_record buffer.now end place)
+  pub next_record_answers : Answers M next_record_of.ended next_record_of_proof.Symbol.name next_record_of_proof.Symbol.code (λ _ (buffer, (end, (place, _))) r _. step_of r ≡ next_record buffer.now end place)
   next_record_answers = next_record_of_proof.Met.met
 
   -- the walker: made before the newest frame, and one step
@@ -242,7 +242,7 @@ numbers_exact = numbers.exact
 -- ==== of a run
 -- g is what it is given. It returned `number`, stored `values`, and left the variables v and the buffer b: what
 -- `lilivrez_run` ensures. What `run` answers is told by the same numbers.
-pub run_told : {g : Given} {r : Outcome} {v b : List ℕ} → Ran g r v b → RunNumbers g (number_told r) (values_told g.used r) v b
+pub run_told : {g : Given} {r : Result Completed code.Refusal} {v b : List ℕ} → Ran g r v b → RunNumbers g (number_told r) (values_told g.used r) v b
 run_told = reporting.run_told
 
 module _ {g : Given} {number : ℕ} {values v b : List ℕ} (tells : RunNumbers g number values v b) where

@@ -34,3 +34,7 @@ Answers M T name code p = Met M T name code (λ 𝓤 κs a r e. fact 𝓤 (p κs
 -- an exported function: what it returns, and what it stores
 abbrev pub Exports : (M : Type 1) (T : Ended) → Callee → Code → Fact T → Fact T → Type 2
 Exports M T name code p q = Met M T name code (λ 𝓤 κs a r e. sep 𝓤 (fact 𝓤 (p κs a r e)) (fact 𝓤 (q κs a r e)))
+
+-- a function that lends a part, or says why not: the number of its refusal, the part, and what there is where it is refused
+abbrev pub Lends : (M : Type 1) (T : Ended) → Callee → Code → Fact T → Fact T → Fact T → Type 2
+Lends M T name code p q s = Met M T name code (λ 𝓤 κs a r e. sep 𝓤 (fact 𝓤 (p κs a r e)) (sep 𝓤 (fact 𝓤 (q κs a r e)) (fact 𝓤 (s κs a r e))))

@@ -3,6 +3,7 @@ use mathlib.Core.List.{List, [], ◌∷◌, ◌++◌}
 use mathlib.Core.Path.{◌≡◌}
 use Prim.Native.Nat.{ℕ, ◌+◌, ◌-◌, ◌^◌, ◌≤◌, ◌<◌}
 use lib.ListN.{length, take, drop, set}
+use borrow.Rule.Slice.PartMut.{put_mid}
 use Rattle.encoding.specs.BigEndian.{big_endian, big_bytes}
 use Rattle.encoding.specs.LittleEndian.{little_endian, little_bytes}
 use Rattle.encoding.specs.Written.{written_at}
@@ -86,6 +87,10 @@ module _ (l : List ℕ) (a : ℕ) where
 
   pub written_past : (e : List ℕ) → length l ≤ a → written_at l a e ≡ l
   written_past = writing.written_past l a
+
+  -- a copy to a part that is lent as `&mut l[a..a + k]`
+  pub part_copied : (k : ℕ) (e : List ℕ) → a + length e ≤ length l → length e ≡ k → put_mid a k l e ≡ written_at l a e
+  part_copied = writing.part_copied l a
 
   -- the bytes written are read back
   pub written_read : (e : List ℕ) → a + length e ≤ length l → take (length e) (drop a (written_at l a e)) ≡ e

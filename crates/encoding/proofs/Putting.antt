@@ -10,7 +10,7 @@ use lib.Seq.{take-suc, length-take-le, take_all}
 use Rattle.encoding.specs.LittleEndian.{little_bytes}
 use Rattle.encoding.specs.Written.{written_at}
 use Rattle.encoding.proofs.LittleNumbers.{length_little, little_snoc}
-use Rattle.encoding.proofs.Writing.{written_length, written_nothing, written_snoc, written_over, written_read}
+use Rattle.encoding.proofs.Writing.{written_length, written_nothing, written_snoc, written_over}
 
 -- k of the n bytes of v are written, and x is what is left of v
 pub record PuttingLittle (l : List ℕ) (a v n : ℕ) (m : List ℕ) (k x : ℕ) : Type 0 where
@@ -74,7 +74,3 @@ two_moves l a bytes w {m} h i p q =
       same = ap length p ∙ written_length l a (take (w - 0) (drop 0 bytes));
     } in
     block_end first (length bytes - w) (length bytes - (length bytes - w)) q (omega arith) (omega arith)
-
--- ---- bytes that go through an array
-pub through_array : (array bytes : List ℕ) {m : List ℕ} → m ≡ written_at array 0 bytes → length bytes ≤ length array → take (length bytes) m ≡ bytes
-through_array array bytes q h = ap (λ (l : List ℕ). take (length bytes) l) q ∙ written_read array 0 bytes (omega (arith, h))

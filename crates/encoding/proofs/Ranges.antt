@@ -1,17 +1,12 @@
 -- Lists of numbers below b, which are bytes or words.
 use mathlib.Core.List.{List, [], ◌∷◌, ◌++◌}
-use mathlib.Core.Path.{◌≡◌}
 use Prim.Native.Nat.{ℕ, zero, suc, ◌+◌, ◌<◌}
 use native.Mathlib.Omega.{arith}
-use lib.ListN.{length, take, drop, set, get_or-eq_default}
+use lib.ListN.{take, drop, set}
 use lib.Seq.{get_or-drop}
 use Rattle.encoding.specs.Ranges.{Below}
 
 module _ (b : ℕ) where
-  -- of no elements
-  pub below_none : 0 < b → (l : List ℕ) → length l ≡ 0 → Below b l
-  below_none h l p i = rw (get_or-eq_default l 0 {n = i} (omega arith)) h
-
   pub below_cons : (x : ℕ) (l : List ℕ) → x < b → Below b l → Below b (x ∷ l)
   below_cons x l h t zero = h
   below_cons x l h t (suc i) = t i

@@ -5,7 +5,8 @@ use Prim.Native.Nat.{ℕ, zero, suc, ◌+◌, ◌-◌, ◌≤◌}
 use native.Mathlib.Nat.{zero-add, suc-add, le_of_suc-le-suc, not-suc-le-zero}
 use native.Mathlib.Omega.{arith}
 use lib.ListN.{length, take, drop, set, length-drop, drop_of_length-le, take-append-drop}
-use lib.Seq.{take_all, take-nil, take-add, length-take-le}
+use lib.Seq.{take_all, take-nil, take-add, length-take-le, drop-drop}
+use borrow.Rule.Slice.PartMut.{put_mid}
 use Rattle.encoding.specs.Written.{written_at}
 
 pub written_length : (l : List ℕ) (a : ℕ) (e : List ℕ) → length (written_at l a e) ≡ length l
@@ -99,6 +100,11 @@ written_form (x ∷ l) zero (b ∷ e) h =
     let i = written_form l zero e (omega arith) in
     rw zero-add (ap (λ r. b ∷ r) (rw zero-add at i))
 written_form (x ∷ l) (suc a) e h = rw suc-add (ap (λ r. x ∷ r) (written_form l a e (omega arith)))
+
+-- a copy to a part that is lent as `&mut l[a..a + k]`
+pub part_copied : (l : List ℕ) (a k : ℕ) (e : List ℕ) → a + length e ≤ length l → length e ≡ k → put_mid a k l e ≡ written_at l a e
+part_copied l a k e h q =
+    ap (λ (r : List ℕ). take a l ++ (e ++ r)) (drop-drop k a l ∙ ap (λ (n : ℕ). drop (a + n) l) (sym q)) ∙ sym (written_form l a e h)
 
 -- the written bytes read back
 pub written_read : (l : List ℕ) (a : ℕ) (e : List ℕ) → a + length e ≤ length l → take (length e) (drop a (written_at l a e)) ≡ e

@@ -7,30 +7,18 @@ ghost use Rattle.encoding.specs.LittleEndian.{little_endian, little_bytes};
 ghost use Rattle.encoding.specs.Written.{written_at};
 ghost use Rattle.encoding.specs.Ranges.{AllBytes, AllWords};
 
-// ---- what a slice's type says of all its elements
-// Where one of them is read, the range of every one is known: so the first is read, for a caller to know it of any
-// slice. The compiler removes the read.
+// ---- what a slice's type says of all its elements, for a caller to know it of any slice
 pub fn bytes_known(bytes: &[u8])
     ensures { AllBytes bytes.now }
-{
-    if bytes.len() == 0 {
-        return;
-    }
-    let first = bytes[0];
-}
+{}
 
 pub fn words_known(words: &[u64])
     ensures { AllWords words.now }
-{
-    if words.len() == 0 {
-        return;
-    }
-    let first = words[0];
-}
+{}
 
 // ---- numbers
 
-// A byte as a 64-bit number: the caller then knows that it is below 256.
+// A byte as a 64-bit number that the caller knows to be below 256: `u64::from` says only that it is the byte.
 pub fn wide(byte: u8) -> u64
     ensures { (result ≡ byte) × (result < 256) }
 {
@@ -44,10 +32,8 @@ pub fn big_endian(bytes: &[u8], at: usize, count: usize) -> u64
     ensures { (result ≡ big_endian bytes.now at count) × (result < 256 ^ count) }
 {
     let mut number: u64 = 0;
-    let mut read = 0;
-    while read < count {
-        number = number * 256 + wide(bytes[at + read]);
-        read += 1;
+    for read in 0..count {
+        number = number * 256 + u64::from(bytes[at + read]);
     }
     number
 }
@@ -57,12 +43,9 @@ pub fn little_endian(bytes: &[u8]) -> u64
     requires { length bytes.now ≤ 8 }
     ensures { (result ≡ little_endian bytes.now) × (result < 256 ^ length bytes.now) }
 {
-    let count = bytes.len();
     let mut value: u64 = 0;
-    let mut left = count;
-    while 0 < left {
-        value = value * 256 + wide(bytes[left - 1]);
-        left -= 1;
+    for read in (0..bytes.len()).rev() {
+        value = value * 256 + u64::from(bytes[read]);
     }
     value
 }
@@ -73,11 +56,9 @@ pub fn put_little(out: &mut [u8], at: usize, value: u64, count: usize)
     ensures { out.new ≡ written_at out.old at (little_bytes count value) }
 {
     let mut rest = value;
-    let mut put = 0;
-    while put < count {
+    for put in 0..count {
         out[at + put] = (rest % 256) as u8;
         rest = rest / 256;
-        put += 1;
     }
 }
 
@@ -87,44 +68,28 @@ pub fn put_big(out: &mut [u8], at: usize, value: u64, count: usize)
     ensures { out.new ≡ written_at out.old at (big_bytes count value) }
 {
     let mut rest = value;
-    let mut left = count;
-    while 0 < left {
-        left -= 1;
-        out[at + left] = (rest % 256) as u8;
+    for put in (0..count).rev() {
+        out[at + put] = (rest % 256) as u8;
         rest = rest / 256;
     }
 }
 
-// Writes a copy of `bytes` from `at` on, byte by byte.
+// Writes a copy of `bytes` from `at` on, byte by byte: so few that the library's copy, a call, costs more.
 fn put_each(out: &mut [u8], at: usize, bytes: &[u8])
     requires { at + length bytes.now ≤ length out.old }
     ensures { out.new ≡ written_at out.old at bytes.now }
 {
-    let mut copied = 0;
-    while copied < bytes.len() {
-        out[at + copied] = bytes[copied];
-        copied += 1;
+    for (copied, byte) in bytes.iter().enumerate() {
+        out[at + copied] = *byte;
     }
 }
 
-// An array for bytes on their way from one slice to another.
-fn block() -> [u8; 65536]
-    ensures { 65536 ≡ length result }
-{
-    [0; 65536]
-}
-
-// The same as `put_each`, through a local array, which overlaps neither slice: so all bytes are read before the first
-// is written, and the compiler makes one move of both copies, without the array.
-fn put_through(out: &mut [u8], at: usize, bytes: &[u8])
-    requires size { length bytes.now ≤ 65536 }
-    requires room { at + length bytes.now ≤ length out.old }
+// The same in one move.
+fn put_whole(out: &mut [u8], at: usize, bytes: &[u8])
+    requires { at + length bytes.now ≤ length out.old }
     ensures { out.new ≡ written_at out.old at bytes.now }
 {
-    let mut block = block();
-    let count = bytes.len();
-    put_each(&mut block, 0, bytes);
-    put_each(out, at, &block[..count]);
+    out[at..at + bytes.len()].copy_from_slice(bytes);
 }
 
 // The same in two moves of `width` bytes, which may overlap: where `width` is a literal, a move is one or two machine
@@ -137,12 +102,11 @@ fn put_two(out: &mut [u8], at: usize, bytes: &[u8], width: usize)
     ensures { out.new ≡ written_at out.old at bytes.now }
 {
     let last = bytes.len() - width;
-    put_through(out, at, &bytes[0..width]);
-    put_through(out, at + last, &bytes[last..]);
+    put_whole(out, at, &bytes[0..width]);
+    put_whole(out, at + last, &bytes[last..]);
 }
 
-// Writes a copy of `bytes` from `at` on. A few bytes are moved in place, which costs less than a call. More than 65,536
-// no trace buffer has: they go one by one.
+// Writes a copy of `bytes` from `at` on. A few bytes are moved in place, which costs less than a call.
 pub fn put_bytes(out: &mut [u8], at: usize, bytes: &[u8])
     requires { at + length bytes.now ≤ length out.old }
     ensures { out.new ≡ written_at out.old at bytes.now }
@@ -160,9 +124,7 @@ pub fn put_bytes(out: &mut [u8], at: usize, bytes: &[u8])
         } else {
             put_two(out, at, bytes, 16);
         }
-    } else if count <= 65536 {
-        put_through(out, at, bytes);
     } else {
-        put_each(out, at, bytes);
+        put_whole(out, at, bytes);
     }
 }

@@ -1,22 +1,24 @@
 -- Laws of the reading of an expression's bytes, one for each way out of the functions of src/. Assumes nothing.
-use Prim.Native.Nat.{ℕ, ◌+◌, ◌-◌, ◌≤◌}
+use Prim.Native.Nat.{ℕ, suc, ◌+◌, ◌-◌, ◌≤◌, ◌<◌}
 use native.Mathlib.Omega.{arith}
-use mathlib.Core.Bool.{Bool, true, false, not}
-use mathlib.Core.List.{List}
-use mathlib.Core.Path.{◌≡◌, sym, ap, subst, ◌∙◌}
-use lib.Dec.{eqb}
+use mathlib.Core.Bool.{Bool, true, false, cond, not}
+use mathlib.Core.List.{List, [], ◌∷◌}
+use mathlib.Core.Path.{◌≡◌, refl, sym, ap, subst, ◌∙◌}
+use Rattle.std.specs.Prelude.{Option, Some, None, Result, Ok, Err}
+use Rattle.std.specs.List.{prefix_len, position_or_len, position}
+use Rattle.std.specs.Result.{result_ok}
+use lib.Dec.{eqb, ltb}
 use lib.ListN.{length, take, drop, get_or, get_or-eq_default}
-use borrow.Author.Tests.{eq-eqb, ne_eqb}
+use borrow.Author.Tests.{eq-eqb, ne_eqb, leb-true, leb-false}
 use Rattle.text_buffer.specs.Text.{bytes_of}
 use Rattle.hexadecimal.specs.Hex.{digit_of}
-use Rattle.hexadecimal.specs.declared.HexAnswer.{HexAnswer}
 use Rattle.line_words.specs.Words.{leading, Word, first_word, same_bytes, IsAt}
 use Rattle.line_words.specs.Numbers.{is_digit, number_in}
 use Rattle.line_words.specs.declared.Place.{Place}
-use Rattle.line_words.specs.declared.numbers.Number.{Number}
+use Rattle.line_words.specs.declared.numbers.NumberError.{NumberError}
 use Rattle.expression_bytes.specs.declared.Front.{Front}
 use Rattle.expression_bytes.specs.declared.ExpressionRead.{ExpressionRead}
-use Rattle.expression_bytes.specs.Expression.{is_not_comma, bytes_start, is_list, no_front, by_number_of, length_of, count_is, is_fitting, word_in, read_front, read_start, ReadAt}
+use Rattle.expression_bytes.specs.Expression.{is_not_comma, bytes_start, is_list, by_number_of, length_of, word_in, read_front, start_by, read_start, ReadAt}
 
 -- ---- the word `bytes`
 module _ (t : List ℕ) (r : Place) (i : IsAt t r (first_word 0 (drop 0 t))) (b : Bool)
@@ -47,37 +49,59 @@ module _ (w : List ℕ) (k : ℕ) where
   list_long e d q = rw (eq-eqb k 2 e, q)
 
 -- ---- the length
-abbrev pub Fronts : List ℕ → Front → Type 0
-Fronts w r = (r ≡ length_of w) × (r.characters ≤ length w)
+comma_leading : (w : List ℕ) → position_or_len (λ c. eqb c 44) w ≡ leading is_not_comma w
+comma_leading [] = refl
+comma_leading (c ∷ t) = elim (eqb c 44) as (λ b. cond (not b) (1 + prefix_len (λ x. not (eqb x 44)) t) 0 ≡ cond (not b) (suc (leading is_not_comma t)) 0) [ true ↦ refl | false ↦ omega (arith, comma_leading t) ]
 
-module _ (w : List ℕ) (k : ℕ) (c : k ≡ leading is_not_comma w) where
-  pub front_end : k ≡ length w → Fronts w no_front
+leading_most : (w : List ℕ) → leading is_not_comma w ≤ length w
+leading_most [] = omega arith
+leading_most (c ∷ t) = elim (eqb c 44) as (λ b. cond (not b) (suc (leading is_not_comma t)) 0 ≤ suc (length t)) [ true ↦ omega arith | false ↦ omega (arith, leading_most t) ]
+
+none_if : (b : Bool) (x : ℕ) → None ≡ cond b (Some x) None → b ≡ false
+none_if true x e = let z : ◌≡◌ {A = ℕ} 0 1 = cc in absurd (omega arith)
+none_if false x e = refl
+
+some_if : (b : Bool) (x k : ℕ) → Some k ≡ cond b (Some x) None → (b ≡ true) × (k ≡ x)
+some_if true x k e = (refl, cc)
+some_if false x k e = let z : ◌≡◌ {A = ℕ} 0 1 = cc in absurd (omega arith)
+
+module _ (w : List ℕ) where
+  pub front_end : None ≡ position (λ c. eqb c 44) w → None ≡ length_of w
   unfolding length_of
-  front_end e = (rw (sym c, eq-eqb k (length w) e), omega arith)
+  front_end e =
+      let f : ltb (position_or_len (λ c. eqb c 44) w) (length w) ≡ false = none_if (ltb (position_or_len (λ c. eqb c 44) w) (length w)) (position_or_len (λ c. eqb c 44) w) e in
+      let g = leb-false (suc (position_or_len (λ c. eqb c 44) w)) (length w) f in
+      rw (eq-eqb (leading is_not_comma w) (length w) (omega (arith, g, comma_leading w, leading_most w)))
 
-  module _ (more : k ≡ length w → ⊥) (b : Bool) (l : b ≡ is_list w k) where
-    pub front_list : b ≡ true → Fronts w no_front
-    unfolding length_of
-    front_list q = (rw (sym c, ne_eqb k (length w) more, sym l ∙ q), omega arith)
+  module _ (k : ℕ) (is : Some k ≡ position (λ c. eqb c 44) w) where
+    pub comma_is : (k ≡ leading is_not_comma w) × (k < length w)
+    comma_is =
+        let f = some_if (ltb (position_or_len (λ c. eqb c 44) w) (length w)) (position_or_len (λ c. eqb c 44) w) k is in
+        let g = leb-true (suc (position_or_len (λ c. eqb c 44) w)) (length w) f.0 in
+        (f.1 ∙ comma_leading w, omega (arith, g, f.1))
 
-    pub front_by : b ≡ false → (n : Number) → n ≡ number_in 16 (take (k - 0) w) → by_number_of k n ≡ length_of w
-    unfolding length_of
-    front_by q n e =
-        let z : k - 0 ≡ k = omega arith in
-        rw (sym c, ne_eqb k (length w) more, sym l ∙ q) (ap (by_number_of k) (e ∙ ap (λ (j : ℕ). number_in 16 (take j w)) z))
+    before_end : eqb (leading is_not_comma w) (length w) ≡ false
+    before_end = ne_eqb (leading is_not_comma w) (length w) (λ z. omega (arith, z, comma_is.0, comma_is.1))
 
--- ---- as many as the length says
-module _ (f : Front) (a : HexAnswer) where
-  pub fits_none : f.characters ≡ 0 → true ≡ is_fitting f a
-  unfolding is_fitting
-  fits_none e = rw (eq-eqb f.characters 0 e)
+    module _ (b : Bool) (l : b ≡ is_list w k) where
+      pub front_list : b ≡ true → None ≡ length_of w
+      unfolding length_of
+      front_list q = rw (before_end, ← comma_is.0, sym l ∙ q)
 
-  pub fits_by : (f.characters ≡ 0 → ⊥) → (b : HexAnswer) → a ≡ b → count_is f.value b ≡ is_fitting f a
-  unfolding is_fitting
-  fits_by g b e = rw (ne_eqb f.characters 0 g) (ap (count_is f.value) (sym e))
+      pub front_by : b ≡ false → (n : Result ℕ NumberError) → n ≡ number_in 16 (take k w) → by_number_of k n ≡ length_of w
+      unfolding length_of
+      front_by q n e = rw (before_end, ← comma_is.0, sym l ∙ q) (ap (by_number_of k) e)
+
+pub by_none : (k : ℕ) (n : Result ℕ NumberError) → None ≡ result_ok n → None ≡ by_number_of k n
+by_none k (Ok v) e = let z : ◌≡◌ {A = ℕ} 0 1 = cc in absurd (omega arith)
+by_none k (Err x) e = refl
+
+pub by_some : (k v : ℕ) (n : Result ℕ NumberError) → Some v ≡ result_ok n → Some (record { value = v; characters = k + 1 }) ≡ by_number_of k n
+by_some k v (Ok w) e = let h : v ≡ w = cc in ap (λ (x : ℕ). Some (record { value = x; characters = k + 1 })) h
+by_some k v (Err x) e = let z : ◌≡◌ {A = ℕ} 0 1 = cc in absurd (omega arith)
 
 -- ---- the whole reading
-module _ (t : List ℕ) (from : ℕ) (s : from ≡ bytes_start t) (r : Place) (i : IsAt t r (first_word from (drop from t))) (f : Front)
+module _ (t : List ℕ) (from : ℕ) (s : from ≡ bytes_start t) (r : Place) (i : IsAt t r (first_word from (drop from t))) (f : Option Front)
     (e : f ≡ length_of (take (r.end - r.start) (drop r.start t))) (o : List ℕ) (x : ExpressionRead) (o' : List ℕ) where
   word_is : first_word from (drop from t) ≡ word_in t
   word_is = ap (λ (p : ℕ). first_word p (drop p t)) s
@@ -86,19 +110,12 @@ module _ (t : List ℕ) (from : ℕ) (s : from ≡ bytes_start t) (r : Place) (i
   unfolding read_front
   front_is = e ∙ ap length_of (i.bytes_is ∙ ap (λ (w : Word). w.bytes) word_is)
 
-  characters_is : f.characters ≡ (read_front t).characters
-  characters_is = ap (λ (g : Front). g.characters) front_is
-
-  pub read_plain : f.characters ≡ 0 → ReadAt t from f o x o' → ReadAt t (read_start t) (read_front t) o x o'
+  start_is : start_by from r.start f ≡ read_start t
   unfolding read_start
-  read_plain z q =
-      let p : from ≡ read_start t = s ∙ rw (eq-eqb (read_front t).characters 0 (sym characters_is ∙ z)) in
-      subst (λ (g : Front). ReadAt t (read_start t) g o x o') front_is (subst (λ (j : ℕ). ReadAt t j f o x o') p q)
+  start_is =
+      ap (λ (p : ℕ). start_by p r.start f) s
+      ∙ ap (λ (c : ℕ). start_by (bytes_start t) c f) (i.start_is ∙ ap (λ (w : Word). w.column) word_is)
+      ∙ ap (start_by (bytes_start t) (word_in t).column) front_is
 
-  pub read_packet : (f.characters ≡ 0 → ⊥) → ReadAt t (r.start + f.characters) f o x o' → ReadAt t (read_start t) (read_front t) o x o'
-  unfolding read_start
-  read_packet g q =
-      let c : r.start ≡ (word_in t).column = i.start_is ∙ ap (λ (w : Word). w.column) word_is in
-      let n : eqb (read_front t).characters 0 ≡ false = ne_eqb (read_front t).characters 0 (λ z. g (characters_is ∙ z)) in
-      let p : r.start + f.characters ≡ read_start t = ap (λ (j : ℕ). j + f.characters) c ∙ ap (λ (j : ℕ). (word_in t).column + j) characters_is ∙ rw n in
-      subst (λ (h : Front). ReadAt t (read_start t) h o x o') front_is (subst (λ (j : ℕ). ReadAt t j f o x o') p q)
+  pub read_by : ReadAt t (start_by from r.start f) f o x o' → ReadAt t (read_start t) (read_front t) o x o'
+  read_by q = subst (λ (g : Option Front). ReadAt t (read_start t) g o x o') front_is (subst (λ (j : ℕ). ReadAt t j f o x o') start_is q)

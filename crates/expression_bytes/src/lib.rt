@@ -2,12 +2,12 @@
 // have it; or with the length in front, as GDB's packets have it (`3,220527`).
 #![tactic(auto)]
 
-ghost use Rattle.std.specs.Prelude.{◌≡◌, ◌≤◌, length};
-ghost use Rattle.line_words.specs.Words.{leading};
-ghost use Rattle.expression_bytes.specs.Expression.{is_not_comma, bytes_start, is_list, length_of, is_fitting, read_front, read_start, ReadAt};
+ghost use Rattle.std.specs.Prelude.{◌≡◌, ◌≤◌, ◌==◌, length, position};
+ghost use Rattle.std.specs.Option.{IfSome};
+ghost use Rattle.expression_bytes.specs.Expression.{bytes_start, is_list, length_of, is_fitting, read_front, read_start, ReadAt};
 
-use hexadecimal::HexAnswer;
-use line_words::numbers::{Number, is_digit, unsigned};
+use hexadecimal::HexError;
+use line_words::numbers::{Base, is_digit, unsigned};
 use line_words::{is_same, next_word};
 
 // What was read: from a column on, with what answer; positions in the answer are counted from that column. `fitting`: the
@@ -15,11 +15,11 @@ use line_words::{is_same, next_word};
 #[derive(Clone, Copy)]
 pub struct ExpressionRead {
     pub start: usize,
-    pub answer: HexAnswer,
+    pub answer: Result<usize, HexError>,
     pub fitting: bool,
 }
 
-// The length in front of the bytes, and how many characters it has with its comma: 0 where there is none.
+// The length in front of the bytes, and how many characters it has with its comma.
 #[derive(Clone, Copy)]
 pub struct Front {
     pub value: u64,
@@ -39,81 +39,47 @@ fn bytes_start(text: &[u8]) -> usize
     0
 }
 
-// The number of characters before the first comma.
-fn comma(word: &[u8]) -> usize
-    ensures { (result ≡ leading is_not_comma word.now) × (result ≤ length word.now) }
+fn first_comma(word: &[u8]) -> Option<usize>
+    ensures { result ≡ position (λ c. c == 44) word.now }
 {
-    let mut n = 0;
-    while n < word.len() {
-        if word[n] == b',' {
-            return n;
-        }
-        n += 1;
-    }
-    n
+    word.iter().position(|c| *c == b',')
 }
 
 // Bytes with commas between them: two digits before the first comma, and no third behind it.
-fn is_list(word: &[u8], k: usize) -> bool
-    ensures { result ≡ is_list word.now k }
+fn is_list(word: &[u8], comma: usize) -> bool
+    ensures { result ≡ is_list word.now comma }
 {
-    if k == 2 {
-        if word.len() <= 5 {
-            return true;
-        }
-        return !is_digit(word[5], 16);
-    }
-    false
+    comma == 2 && (word.len() <= 5 || !is_digit(word[5], Base::Hexadecimal))
 }
 
-fn length_of(word: &[u8]) -> Front
-    ensures { (result ≡ length_of word.now) × (result.characters ≤ length word.now) }
+fn length_of(word: &[u8]) -> Option<Front>
+    ensures front { result ≡ length_of word.now }
+    ensures within { IfSome result (λ f. f.characters ≤ length word.now) }
 {
-    let k = comma(word);
-    if k == word.len() {
-        return Front {
-            value: 0,
-            characters: 0,
-        };
+    let comma = first_comma(word)?;
+    if is_list(word, comma) {
+        return None;
     }
-    if is_list(word, k) {
-        return Front {
-            value: 0,
-            characters: 0,
-        };
-    }
-    match unsigned(&word[0..k], 16) {
-        Number::Large => Front {
-            value: 0,
-            characters: 0,
-        },
-        Number::Not => Front {
-            value: 0,
-            characters: 0,
-        },
-        Number::Value(value) => Front {
-            value,
-            characters: k + 1,
-        },
-    }
+    let value = unsigned(&word[..comma], Base::Hexadecimal).ok()?;
+    Some(Front {
+        value,
+        characters: comma + 1,
+    })
 }
 
-fn is_fitting(front: Front, answer: HexAnswer) -> bool
+fn is_fitting(front: Option<Front>, answer: Result<usize, HexError>) -> bool
     ensures { result ≡ is_fitting front answer }
 {
-    let value = front.value;
-    if front.characters == 0 {
-        return true;
-    }
-    match answer {
-        HexAnswer::NotHex(position) => true,
-        HexAnswer::Odd => true,
-        HexAnswer::TooLong => true,
-        HexAnswer::Bytes(count) => count as u64 == value,
+    match front {
+        Some(length) => match answer {
+            Ok(count) => count as u64 == length.value,
+            Err(_) => true,
+        },
+        None => true,
     }
 }
 
-fn read_from(text: &[u8], start: usize, front: Front, out: &mut [u8]) -> ExpressionRead
+fn read_from(text: &[u8], start: usize, front: Option<Front>, out: &mut [u8]) -> ExpressionRead
     requires { start ≤ length text.now }
     ensures { ReadAt text.now start front out.old result out.new }
 {
@@ -134,10 +100,8 @@ pub fn read(text: &[u8], out: &mut [u8]) -> ExpressionRead
     let word = next_word(text, from);
     let start = word.start;
     let end = word.end;
-    let front = length_of(&text[start..end]);
-    let characters = front.characters;
-    if characters == 0 {
-        return read_from(text, from, front, out);
+    match length_of(&text[start..end]) {
+        Some(front) => read_from(text, start + front.characters, Some(front), out),
+        None => read_from(text, from, None, out),
     }
-    read_from(text, start + characters, front, out)
 }

@@ -5,23 +5,26 @@ mod identities;
 mod status;
 mod writing;
 
-ghost use Rattle.std.specs.Prelude.{◌≡◌, ℕ, ◌≤◌, length};
+ghost use Rattle.std.specs.Prelude.{◌≡◌, ◌≤◌, length, IfOk};
 
-pub use identities::{FileIdentity, identity, is_same, is_same_file};
+pub use identities::{FileIdentity, identity, is_same};
 use status::text_of;
 use std::fs::File;
-use std::io::{Read, Stdin};
-use system_errors::number_of;
-pub use writing::{Draft, Target, abandon, begin, finish, save};
+use std::io;
+use std::io::{Error, Read, Stdin};
+pub use writing::{Draft, abandon, begin, finish, save};
 
-// A file's bytes, so many; or it cannot be opened, or read, by the number of the system's error; or it has more bytes
-// than there is room for.
+// Why a file is not read whole: it cannot be opened or read; or it has more bytes than there is room for.
 #[derive(Drop)]
-pub enum Loaded {
-    Bytes(usize),
-    NotOpened(i32),
-    NotRead(i32),
+pub enum LoadError {
+    Failed(Error),
     TooLong,
+}
+
+impl From<Error> for LoadError {
+    fn from(error: Error) -> LoadError {
+        LoadError::Failed(error)
+    }
 }
 
 // What is read: standard input, or a file that is open.
@@ -32,7 +35,7 @@ pub enum Input {
 }
 
 impl Read for Input {
-    fn read(&mut self, buf: &mut [u8]) -> std::io::Result<usize> {
+    fn read(&mut self, buf: &mut [u8]) -> io::Result<usize> {
         match self {
             Input::Standard(stdin) => stdin.read(buf),
             Input::Opened(file) => file.read(buf),
@@ -43,68 +46,53 @@ impl Read for Input {
 // Whether the file goes on: one byte more can be read.
 fn goes_on<R: Read>(reader: &mut R) -> bool {
     let mut more = [0u8; 1];
-    match reader.read(&mut more) {
-        Ok(got) => 0 < got,
-        Err(_) => false,
-    }
+    reader.read(&mut more).is_ok_and(|got| 0 < got)
 }
 
-// 1,048,576 zeros, for a text or the bytes of a span.
-pub fn mebibyte_buffer() -> [u8; 1048576]
-    ensures { 1048576 ≡ length result }
+// So many zeros. They come from a function of their own: where a proof sees a long array that is made, it goes through
+// each of its elements.
+pub fn zeros<const N: usize>() -> [u8; N]
+    ensures { length result ≡ N }
 {
-    [0; 1048576]
+    [0; N]
 }
 
 // Whether the name stands for standard input or standard output.
 pub fn is_standard(name: &[u8]) -> bool {
-    check::same(name, b"-")
+    matches!(name, b"-")
 }
 
-// Opens a file for reading; or answers the number of the system's error.
-pub fn open(rt: &HostRuntime, name: &[u8]) -> Result<Input, i32> {
+// Opens a file for reading.
+pub fn open(rt: &HostRuntime, name: &[u8]) -> io::Result<Input> {
     if is_standard(name) {
         return Ok(Input::Standard(rt.stdin()));
     }
-    match File::open(rt, text_of(name)?) {
-        Ok(file) => Ok(Input::Opened(file)),
-        Err(error) => Err(number_of(&error)),
-    }
+    let file = File::open(rt, text_of(name)?)?;
+    Ok(Input::Opened(file))
 }
 
-// Closes what `open` opened; standard input stays open.
-pub fn close(input: Input) {
-    drop(input);
-}
-
-// Puts what is left of an open file at the start of `bytes`.
-pub fn load_rest<R: Read>(reader: &mut R, bytes: &mut [u8]) -> Loaded
-    ensures { (n : ℕ) → result ≡ Loaded.Bytes n → n ≤ length bytes.new }
+// Puts what is left of an open file at the start of `bytes`, and answers how many bytes that is.
+pub fn load_rest<R: Read>(reader: &mut R, bytes: &mut [u8]) -> Result<usize, LoadError>
+    ensures { IfOk result (λ n. n ≤ length bytes.new) }
 {
+    // The count is kept by hand: each read says how many bytes it brought.
     let mut n = 0;
     while n < bytes.len() {
-        match reader.read(&mut bytes[n..]) {
-            Ok(0) => return Loaded::Bytes(n),
-            Ok(more) => n += more,
-            Err(error) => return Loaded::NotRead(number_of(&error)),
+        match reader.read(&mut bytes[n..])? {
+            0 => return Ok(n),
+            more => n += more,
         }
     }
     if goes_on(reader) {
-        return Loaded::TooLong;
+        return Err(LoadError::TooLong);
     }
-    Loaded::Bytes(n)
+    Ok(n)
 }
 
-// Puts the file's bytes at the start of `bytes`.
-pub fn load(rt: &HostRuntime, name: &[u8], bytes: &mut [u8]) -> Loaded
-    ensures { (n : ℕ) → result ≡ Loaded.Bytes n → n ≤ length bytes.new }
+// Puts the file's bytes at the start of `bytes`, and answers how many they are.
+pub fn load(rt: &HostRuntime, name: &[u8], bytes: &mut [u8]) -> Result<usize, LoadError>
+    ensures { IfOk result (λ n. n ≤ length bytes.new) }
 {
-    match open(rt, name) {
-        Ok(mut input) => {
-            let loaded = load_rest(&mut input, bytes);
-            close(input);
-            loaded
-        }
-        Err(errno) => Loaded::NotOpened(errno),
-    }
+    let mut input = open(rt, name)?;
+    load_rest(&mut input, bytes)
 }

@@ -10,7 +10,7 @@ use Rattle.hexadecimal.specs.Hex.{whole, with_bytes, read_from, pair_of}
 use Rattle.text_buffer.specs.Text.{bytes_of}
 use Rattle.text_buffer.proofs.Promises.{drop_out}
 use Rattle.hexadecimal.proofs.Promises.{nothing_read, blank_read, pair_read}
-use Rattle.reader.specs.declared.RecordStep.TheVariants.{Memory}
+use Rattle.reader.specs.NextRecord.{Memory}
 use Rattle.phrases.specs.Numbers.{hex_text}
 use Rattle.phrases.proofs.Promises.{digits_length}
 use Rattle.frame_lines.specs.Dump.{cell, column, shown_byte, shown, dump_line, dump_text}

@@ -1,10 +1,10 @@
 -- The lines of the record at a place. Assumes nothing.
 use Rattle.std.proofs.Common.{◌≡◌, ℕ, ◌+◌, ◌%◌, ◌^◌, ◌<◌, List, [], ◌∷◌, ◌++◌, length, take, drop, refl, ap, ◌∙◌, add-zero, arith, length-append, lt-ltb}
-use Rattle.refusals.specs.declared.Refusal.{Refusal}
+use Rattle.refusals.specs.Refusal.{Refusal}
 use Rattle.frames.specs.Record.{Record, memory, variable, size, encode, encode_all}
 use Rattle.frames.proofs.Promises.{length_encode}
 use Rattle.reader.specs.NextRecord.{record_there, record_at, step_over, step_at, next_record, RecordsFrom, goes}
-use Rattle.reader.specs.declared.RecordStep.{RecordStep}
+use Rattle.reader.specs.NextRecord.{RecordStep}
 use Rattle.frame_lines.specs.Dump.{dump_line, dump_text}
 use Rattle.frame_lines.specs.Lines.{record_text, line_of}
 

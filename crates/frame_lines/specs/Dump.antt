@@ -3,8 +3,7 @@
 use Rattle.std.specs.Prelude.{ℕ, zero, suc, ◌+◌, ◌%◌, ◌^◌, cond, List, [], ◌∷◌, ◌++◌, take, drop, nat_lt}
 use Rattle.hexadecimal.specs.Hex.{is_between, pair_of}
 use Rattle.text_buffer.specs.Text.{bytes_of}
-use Rattle.reader.specs.declared.RecordStep.{RecordStep}
-use Rattle.reader.specs.declared.RecordStep.TheVariants.{Memory, Variable, Refused}
+use Rattle.reader.specs.NextRecord.{RecordStep, Memory, Variable, Refused}
 use Rattle.phrases.specs.Numbers.{hex_text}
 
 -- a blank and the two digits of a byte; three blanks where there is no byte

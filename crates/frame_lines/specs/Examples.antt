@@ -13,7 +13,7 @@ use Rattle.refusals.specs.Refusal.{refusal}
 use Rattle.reader.specs.Framed.{framed}
 use Rattle.reader.specs.Read.{counting, refused_count}
 use Rattle.reader.specs.NextRecord.{record_at, next_record}
-use Rattle.reader.specs.declared.RecordStep.TheVariants.{Variable}
+use Rattle.reader.specs.NextRecord.{Variable}
 use Rattle.phrases.specs.Numbers.{count_text, hex_text, significant, other_reading, value_text}
 use Rattle.phrases.specs.Refused.{refused_at}
 use Rattle.frame_lines.specs.Dump.{column, shown_byte, shown, dump_line, dump_text}

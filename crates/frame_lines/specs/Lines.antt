@@ -2,13 +2,12 @@
 use Rattle.std.specs.Prelude.{ℕ, cond, List, [], ◌++◌, length, ◌==◌}
 use Rattle.text_buffer.specs.Text.{bytes_of}
 use Rattle.text_buffer.specs.Decimal.{decimal}
-use Rattle.refusals.specs.declared.Refusal.{Refusal}
+use Rattle.refusals.specs.Refusal.{Refusal}
 use Rattle.frames.specs.declared.Tag.{Tag}
 use Rattle.frames.specs.Record.{Record, memory, variable}
 use Rattle.phrases.specs.Refused.{refusal_of, refused_at}
 use Rattle.reader.specs.Read.{Counted, counted, refused_count}
-use Rattle.reader.specs.declared.RecordStep.{RecordStep}
-use Rattle.reader.specs.declared.RecordStep.TheVariants.{Memory, Variable, Refused}
+use Rattle.reader.specs.NextRecord.{RecordStep, Memory, Variable, Refused}
 use Rattle.phrases.specs.Numbers.{count_text, hex_text, value_text}
 
 -- `refused N at offset K: WORDS`

@@ -24,10 +24,6 @@ module _ (l : List ℕ) (u : ℕ) where
   pub too_far : length l < u → unfit l u ≡ true
   too_far h = too_far_by (ltb buffer_most (length l)) h
 
-  -- the code's second test decides where the first does not hold
-  pub second_test : length l ≤ buffer_most → ltb (length l) u ≡ unfit l u
-  second_test h = rw (le-ltb buffer_most (length l) h)
-
   pub fit_lengths : unfit l u ≡ false → (length l ≤ buffer_most) × (u ≤ length l)
   fit_lengths e =
       cases buffer_most (length l) (λ h. no_true (sym e ∙ too_large h)) λ h.

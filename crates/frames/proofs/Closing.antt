@@ -17,7 +17,7 @@ use Rattle.frames.specs.Frame.{encode_frame}
 use Rattle.frames.specs.declared.Tag.{Tag}
 use Rattle.frames.specs.Trailer.{trailer_size, tag_of, TagFits, encode_trailer, TrailerRead, trailer, broken_trailer, decode_trailer}
 use Rattle.frames.specs.Joining.Answers.{ending_of}
-use Rattle.frames.specs.declared.Ending.TheVariants.{Closes, NoTrailer}
+use Rattle.std.proofs.Common.{Some, None}
 use Rattle.frames.proofs.Reading.{fails}
 use Rattle.frames.proofs.Decoding.{chosen, piece, mark_first, field_below, field_bytes}
 
@@ -75,7 +75,7 @@ module _ (l : List ℕ) (bytes : AllBytes l) where
 
 -- ---- what `read_trailer` answers
 module _ (l : List ℕ) where
-  pub no_trailer : (length l ≡ trailer_size → get_or l 0 0 ≡ 0x46 → get_or l 1 0 ≡ 0x00 → ⊥) → NoTrailer ≡ ending_of (decode_trailer l)
+  pub no_trailer : (length l ≡ trailer_size → get_or l 0 0 ≡ 0x46 → get_or l 1 0 ≡ 0x00 → ⊥) → None ≡ ending_of (decode_trailer l)
   unfolding decode_trailer
   no_trailer f =
       let a = eqb (length l) trailer_size in
@@ -86,7 +86,7 @@ module _ (l : List ℕ) where
       (eqb→eq (get_or l 0 0) 0x46 (and_right a b (and_left (a && b) c t)))
       (eqb→eq (get_or l 1 0) 0x00 (and_right (a && b) c t)))
 
-  pub a_trailer : length l ≡ trailer_size → get_or l 0 0 ≡ 0x46 → get_or l 1 0 ≡ 0x00 → Closes (tag_of (field l 2 2)) (field l 4 4) ≡ ending_of (decode_trailer l)
+  pub a_trailer : length l ≡ trailer_size → get_or l 0 0 ≡ 0x46 → get_or l 1 0 ≡ 0x00 → Some (record { tag = tag_of (field l 2 2); length = field l 4 4 }) ≡ ending_of (decode_trailer l)
   unfolding decode_trailer
   a_trailer e m s = rw (e, m, s)
 

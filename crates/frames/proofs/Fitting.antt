@@ -6,6 +6,7 @@ use Prim.Native.Nat.{ℕ, ◌+◌, ◌-◌, ◌≤◌, ◌<◌}
 use native.Mathlib.Omega.{arith}
 use lib.ListN.{length, take, drop, set}
 use lib.Dec.{leb}
+use Rattle.std.proofs.Common.{Option, Some, None}
 use borrow.Author.Tests.{le-leb, lt-leb, leb-true, leb-false}
 use Rattle.encoding.specs.LittleEndian.{little_bytes}
 use Rattle.encoding.specs.Written.{written_at}
@@ -17,23 +18,21 @@ use Rattle.frames.specs.declared.Tag.{Tag}
 use Rattle.frames.specs.Frame.{encode_frame}
 use Rattle.frames.specs.Writing.{written, encodable}
 use Rattle.frames.specs.Joining.Answers.{Leaves, PutWhole}
-use Rattle.frames.specs.declared.Put.{Put}
-use Rattle.frames.specs.declared.Put.TheVariants.{Bytes, Full}
 use Rattle.frames.proofs.Dividing.{encode_all_more}
 
 -- ---- the cases of a writer's code
 module _ (b : Bool) (l : List ℕ) (u : ℕ) (e : List ℕ) where
-  pub leaves_all : b ≡ true → {n : ℕ} → n ≡ length e → u + n ≤ length l → {m : List ℕ} → m ≡ written_at l u e → Leaves (written b l u e) (Bytes n) m
+  pub leaves_all : b ≡ true → {n : ℕ} → n ≡ length e → u + n ≤ length l → {m : List ℕ} → m ≡ written_at l u e → Leaves (written b l u e) (Some n) m
   unfolding written
   leaves_all f c h s =
       let fits = le-leb (u + length e) (length l) (omega arith) in
       record { answer = rw (f, fits, c); bytes = rw (f, fits, s) }
 
-  pub leaves_unformed : b ≡ false → Leaves (written b l u e) Full l
+  pub leaves_unformed : b ≡ false → Leaves (written b l u e) None l
   unfolding written
   leaves_unformed f = record { answer = rw f; bytes = rw f }
 
-pub leaves_none : (b : Bool) (l : List ℕ) (u : ℕ) (e : List ℕ) → length l < u + length e → Leaves (written b l u e) Full l
+pub leaves_none : (b : Bool) (l : List ℕ) (u : ℕ) (e : List ℕ) → length l < u + length e → Leaves (written b l u e) None l
 unfolding written
 leaves_none true l u e h = let short = lt-leb (u + length e) (length l) h in record { answer = rw short; bytes = rw short }
 leaves_none false l u e h = record { answer = refl; bytes = refl }
@@ -43,11 +42,11 @@ both : (a b : Bool) → a && b ≡ true → b ≡ true
 both true b h = h
 both false b h = let z : ◌≡◌ {A = ℕ} 0 1 = cc in absurd (omega arith)
 
-abbrev chosen : Bool → List ℕ → ℕ → List ℕ → Put × List ℕ
-chosen t l u e = cond t (Bytes (length e), written_at l u e) (Full, l)
+abbrev chosen : Bool → List ℕ → ℕ → List ℕ → Option ℕ × List ℕ
+chosen t l u e = cond t (Some (length e), written_at l u e) (None, l)
 
 module _ (b : Bool) (l : List ℕ) (u : ℕ) (e : List ℕ) where
-  whole_by : (t : Bool) → b && leb (u + length e) (length l) ≡ t → {r : Put} {m : List ℕ} → Leaves (chosen t l u e) r m → {n : ℕ} → r ≡ Bytes n → PutWhole l u e n m
+  whole_by : (t : Bool) → b && leb (u + length e) (length l) ≡ t → {r : Option ℕ} {m : List ℕ} → Leaves (chosen t l u e) r m → {n : ℕ} → r ≡ Some n → PutWhole l u e n m
   whole_by true h w c = record {
     fits = leb-true (u + length e) (length l) (both b (leb (u + length e) (length l)) h);
     count = let q = w.answer in cc;
@@ -55,15 +54,15 @@ module _ (b : Bool) (l : List ℕ) (u : ℕ) (e : List ℕ) where
   }
   whole_by false h w c = let q = w.answer in let z : ◌≡◌ {A = ℕ} 0 1 = cc in absurd (omega arith)
 
-  pub wrote : {r : Put} {m : List ℕ} → Leaves (written b l u e) r m → {n : ℕ} → r ≡ Bytes n → PutWhole l u e n m
+  pub wrote : {r : Option ℕ} {m : List ℕ} → Leaves (written b l u e) r m → {n : ℕ} → r ≡ Some n → PutWhole l u e n m
   unfolding written
   wrote w c = whole_by (b && leb (u + length e) (length l)) refl w c
 
-  full_by : (t : Bool) → b && leb (u + length e) (length l) ≡ t → {r : Put} {m : List ℕ} → Leaves (chosen t l u e) r m → r ≡ Full → (b ≡ true → length l < u + length e) × (m ≡ l)
+  full_by : (t : Bool) → b && leb (u + length e) (length l) ≡ t → {r : Option ℕ} {m : List ℕ} → Leaves (chosen t l u e) r m → r ≡ None → (b ≡ true → length l < u + length e) × (m ≡ l)
   full_by true h w c = let q = w.answer in let z : ◌≡◌ {A = ℕ} 0 1 = cc in absurd (omega arith)
   full_by false h w c = (λ f. leb-false (u + length e) (length l) (rw f at h), w.bytes)
 
-  pub full : {r : Put} {m : List ℕ} → Leaves (written b l u e) r m → r ≡ Full → (b ≡ true → length l < u + length e) × (m ≡ l)
+  pub full : {r : Option ℕ} {m : List ℕ} → Leaves (written b l u e) r m → r ≡ None → (b ≡ true → length l < u + length e) × (m ≡ l)
   unfolding written
   full w c = full_by (b && leb (u + length e) (length l)) refl w c
 
@@ -76,12 +75,12 @@ module _ (b : Bool) (l : List ℕ) (u : ℕ) (e : List ℕ) (h : u ≤ length l)
       cases (length l) (u + length e) (λ k. lt-leb (0 + length e) n (omega arith) ∙ sym (lt-leb (u + length e) (length l) k))
       (λ k. le-leb (0 + length e) n (omega arith) ∙ sym (le-leb (u + length e) (length l) k))
 
-  lent_by : (t : Bool) {r : Put} {p : List ℕ} → Leaves (chosen t (take (length l - u) (drop u l)) 0 e) r p
+  lent_by : (t : Bool) {r : Option ℕ} {p : List ℕ} → Leaves (chosen t (take (length l - u) (drop u l)) 0 e) r p
       → Leaves (chosen t l u e) r (take u l ++ (p ++ drop (length l - u) (drop u l)))
   lent_by true w = record { answer = w.answer; bytes = rw w.bytes (part_written l u h e) }
   lent_by false w = record { answer = w.answer; bytes = rw w.bytes (part_same l u h) }
 
-  pub lent : {r : Put} {p : List ℕ} → Leaves (written b (take (length l - u) (drop u l)) 0 e) r p
+  pub lent : {r : Option ℕ} {p : List ℕ} → Leaves (written b (take (length l - u) (drop u l)) 0 e) r p
       → Leaves (written b l u e) r (take u l ++ (p ++ drop (length l - u) (drop u l)))
   unfolding written
   lent w = lent_by (b && leb (u + length e) (length l)) (rw same_test at w)

@@ -5,6 +5,7 @@ use mathlib.Core.List.{List, [], ◌∷◌, ◌++◌}
 use mathlib.Core.Path.{◌≡◌, refl}
 use Prim.Native.Nat.{ℕ, ◌+◌, ◌-◌, ◌^◌, ◌≤◌, ◌<◌}
 use lib.ListN.{length, take, drop}
+use Rattle.std.proofs.Common.{Option, Some, None}
 use Rattle.encoding.specs.LittleEndian.{little_endian, little_bytes}
 use Rattle.encoding.specs.Written.{written_at}
 use Rattle.encoding.specs.Ranges.{AllBytes}
@@ -18,8 +19,6 @@ use Rattle.frames.specs.Frame.{encode_frame}
 use Rattle.frames.specs.Joining.Answers.{size_of, Leaves, PutWhole}
 use Rattle.frames.specs.Writing.{written, encodable}
 use Rattle.frames.specs.Example.{example_frame, example_records}
-use Rattle.frames.specs.declared.Put.{Put}
-use Rattle.frames.specs.declared.Put.TheVariants.{Bytes, Full}
 use Rattle.frames.proofs.Buffer as buffer
 use Rattle.frames.proofs.Decoding as decoding
 use Rattle.frames.proofs.Dividing as dividing
@@ -130,16 +129,16 @@ encode_trailer_lem = closing.encode_trailer_lem
 pub well_formed_encodable : (r : Record) → WellFormed r → encodable r ≡ true
 well_formed_encodable = fitting.well_formed_encodable
 
-module _ (b : Bool) (l : List ℕ) (u : ℕ) (e : List ℕ) {r : Put} {m : List ℕ} where
+module _ (b : Bool) (l : List ℕ) (u : ℕ) (e : List ℕ) {r : Option ℕ} {m : List ℕ} where
   -- what a writer's answer says
-  pub wrote : Leaves (written b l u e) r m → {n : ℕ} → r ≡ Bytes n → PutWhole l u e n m
+  pub wrote : Leaves (written b l u e) r m → {n : ℕ} → r ≡ Some n → PutWhole l u e n m
   wrote = fitting.wrote b l u e
 
-  pub full : Leaves (written b l u e) r m → r ≡ Full → (b ≡ true → length l < u + length e) × (m ≡ l)
+  pub full : Leaves (written b l u e) r m → r ≡ None → (b ≡ true → length l < u + length e) × (m ≡ l)
   full = fitting.full b l u e
 
 -- a writer that was lent the free part of a buffer has written into the buffer
-pub lent : (b : Bool) (l : List ℕ) (u : ℕ) (e : List ℕ) → u ≤ length l → {r : Put} {p : List ℕ} → Leaves (written b (take (length l - u) (drop u l)) 0 e) r p
+pub lent : (b : Bool) (l : List ℕ) (u : ℕ) (e : List ℕ) → u ≤ length l → {r : Option ℕ} {p : List ℕ} → Leaves (written b (take (length l - u) (drop u l)) 0 e) r p
     → Leaves (written b l u e) r (take u l ++ (p ++ drop (length l - u) (drop u l)))
 lent = fitting.lent
 
@@ -153,8 +152,8 @@ module _ (l : List ℕ) (u : ℕ) (rs : List Record) where
   trailer_behind = fitting.trailer_behind l u rs
 
 -- ---- the size of a record
--- a record is found, and the number is its size; or none is, and the number is 0
-pub by_size : {X : Type 0} (d : Decoded) → (d ≡ broken → size_of d ≡ 0 → X) → ((r : Record) → d ≡ found r → size_of d ≡ size r → X) → X
+-- a record is found, and the answer is its size; or none is, and there is no answer
+pub by_size : {X : Type 0} (d : Decoded) → (d ≡ broken → size_of d ≡ None → X) → ((r : Record) → d ≡ found r → size_of d ≡ Some (size r) → X) → X
 by_size = reading.by_size
 
 -- ---- document 01's frame, written and read

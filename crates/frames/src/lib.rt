@@ -3,7 +3,7 @@
 
 pub mod trailer;
 
-ghost use Rattle.std.specs.Prelude.{◌≡◌, ◌<◌};
+ghost use Rattle.std.specs.Prelude.{◌≡◌, IsSome};
 ghost use Rattle.frames.specs.Record.{memory, variable, decode_memory, decode_variable, decode};
 ghost use Rattle.frames.specs.Writing.{written_record};
 ghost use Rattle.frames.specs.Joining.Answers.{Leaves, size_of, Tells};
@@ -13,17 +13,7 @@ ghost use Rattle.frames.specs.Buffer.{unfit};
 pub fn is_unfit(buffer: &[u8], used: usize) -> bool
     ensures { result ≡ unfit buffer.now used }
 {
-    if sizes::BUFFER_MOST < buffer.len() {
-        return true;
-    }
-    buffer.len() < used
-}
-
-// How many bytes a writer has written; or none, for want of room.
-#[derive(Clone, Copy)]
-pub enum Put {
-    Bytes(usize),
-    Full,
+    sizes::BUFFER_MOST < buffer.len() || buffer.len() < used
 }
 
 // The bytes of a memory record before those recorded.
@@ -31,60 +21,64 @@ pub const MEMORY_HEADER: usize = 11;
 
 const VARIABLE_SIZE: usize = 13;
 
-// A writer receives the free part of the buffer. It writes at its front, whole or not at all.
-pub fn write_memory(free: &mut [u8], address: u64, bytes: &[u8]) -> Put
+// A writer receives the free part of the buffer. It writes at its front, whole or not at all, and says how many bytes
+// it has written, or none for want of room. Those of memory records are placed inside their callers: an answer through
+// memory costs a run 5 machine instructions more a record.
+#[inline(always)]
+pub fn write_memory(free: &mut [u8], address: u64, bytes: &[u8]) -> Option<usize>
     ensures { Leaves (written_record free.old 0 (memory address bytes.now)) result free.new }
 {
     let count = bytes.len();
     if sizes::RECORD_MOST < count {
-        return Put::Full;
+        return None;
     }
     if free.len() < MEMORY_HEADER + count {
-        return Put::Full;
+        return None;
     }
     free[0] = 0x4d;
     encoding::put_little(free, 1, address, 8);
     encoding::put_little(free, 9, count as u64, 2);
     encoding::put_bytes(free, MEMORY_HEADER, bytes);
-    Put::Bytes(MEMORY_HEADER + count)
+    Some(MEMORY_HEADER + count)
 }
 
-pub fn write_variable(free: &mut [u8], number: u32, value: u64) -> Put
+pub fn write_variable(free: &mut [u8], number: u32, value: u64) -> Option<usize>
     ensures { Leaves (written_record free.old 0 (variable number value)) result free.new }
 {
     if free.len() < VARIABLE_SIZE {
-        return Put::Full;
+        return None;
     }
     free[0] = 0x56;
-    encoding::put_little(free, 1, number as u64, 4);
+    encoding::put_little(free, 1, u64::from(number), 4);
     encoding::put_little(free, 5, value, 8);
-    Put::Bytes(VARIABLE_SIZE)
+    Some(VARIABLE_SIZE)
 }
 
 // The same for a whole buffer of which `used` bytes are taken: its free part is lent to the writer.
-pub fn append_memory(buffer: &mut [u8], used: usize, address: u64, bytes: &[u8]) -> Put
+#[inline(always)]
+pub fn append_memory(buffer: &mut [u8], used: usize, address: u64, bytes: &[u8]) -> Option<usize>
     ensures { Leaves (written_record buffer.old used (memory address bytes.now)) result buffer.new }
 {
     if buffer.len() < used {
-        return Put::Full;
+        return None;
     }
     write_memory(&mut buffer[used..], address, bytes)
 }
 
-pub fn append_variable(buffer: &mut [u8], used: usize, number: u32, value: u64) -> Put
+pub fn append_variable(buffer: &mut [u8], used: usize, number: u32, value: u64) -> Option<usize>
     ensures { Leaves (written_record buffer.old used (variable number value)) result buffer.new }
 {
     if buffer.len() < used {
-        return Put::Full;
+        return None;
     }
     write_variable(&mut buffer[used..], number, value)
 }
 
-// A record. Memory: address, length. Variable: number, value.
+// What is told of a record. The bytes of a memory record stand behind its header.
 #[derive(Clone, Copy)]
-pub enum RecordFields {
-    Memory(u64, usize),
-    Variable(u64, u64),
+pub enum Record {
+    Memory { address: u64, length: usize },
+    Variable { number: u64, value: u64 },
 }
 
 // What a trailer says of its frame.
@@ -93,72 +87,62 @@ pub struct Tag {
     pub tracepoint: u16,
 }
 
-// The trailer at the end of a frame: tag, length of the records.
-#[derive(Clone, Copy)]
-pub enum Ending {
-    Closes(Tag, usize),
-    NoTrailer,
-}
-
-fn memory_size(bytes: &[u8]) -> usize
+fn memory_size(bytes: &[u8]) -> Option<usize>
     ensures { result ≡ size_of (decode_memory bytes.now) }
 {
     if bytes.len() < MEMORY_HEADER {
-        return 0;
+        return None;
     }
     let count = encoding::little_endian(&bytes[9..11]) as usize;
     if count == 0 {
-        return 0;
+        return None;
     }
     let size = MEMORY_HEADER + count;
     if bytes.len() < size {
-        return 0;
+        return None;
     }
-    size
+    Some(size)
 }
 
-fn variable_size(bytes: &[u8]) -> usize
+fn variable_size(bytes: &[u8]) -> Option<usize>
     ensures { result ≡ size_of (decode_variable bytes.now) }
 {
     if bytes.len() < VARIABLE_SIZE {
-        return 0;
+        return None;
     }
     let number = encoding::little_endian(&bytes[1..5]);
     if number >= sizes::VARIABLE_COUNT as u64 {
-        return 0;
+        return None;
     }
-    VARIABLE_SIZE
+    Some(VARIABLE_SIZE)
 }
 
-// The number of bytes of the record at the front; 0 where there is none.
-pub fn record_size(bytes: &[u8]) -> usize
+// The number of bytes of the record at the front, where there is one.
+pub fn record_size(bytes: &[u8]) -> Option<usize>
     ensures { result ≡ size_of (decode bytes.now) }
 {
-    if bytes.len() == 0 {
-        return 0;
+    if bytes.is_empty() {
+        return None;
     }
-    let mark = bytes[0];
-    if mark == 0x56 {
-        return variable_size(bytes);
+    match bytes[0] {
+        0x56 => variable_size(bytes),
+        0x4d => memory_size(bytes),
+        _ => None,
     }
-    if mark == 0x4d {
-        return memory_size(bytes);
-    }
-    0
 }
 
 // The record at the front, where there is one: nothing that `record_size` has tested is tested again. A number below 64
 // is its first byte.
-pub fn read_record(bytes: &[u8]) -> RecordFields
-    requires { 0 < size_of (decode bytes.now) }
+pub fn read_record(bytes: &[u8]) -> Record
+    requires { IsSome (size_of (decode bytes.now)) }
     ensures { Tells result (decode bytes.now) }
 {
     if bytes[0] == 0x4d {
         let address = encoding::little_endian(&bytes[1..9]);
-        let count = encoding::little_endian(&bytes[9..11]) as usize;
-        return RecordFields::Memory(address, count);
+        let length = encoding::little_endian(&bytes[9..11]) as usize;
+        return Record::Memory { address, length };
     }
-    let number = encoding::wide(bytes[1]);
+    let number = u64::from(bytes[1]);
     let value = encoding::little_endian(&bytes[5..13]);
-    RecordFields::Variable(number, value)
+    Record::Variable { number, value }
 }

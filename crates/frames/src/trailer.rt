@@ -4,9 +4,16 @@ ghost use Rattle.frames.specs.Trailer.{tag_of, decode_trailer};
 ghost use Rattle.frames.specs.Joining.Answers.{ending_of, Leaves};
 ghost use Rattle.frames.specs.Writing.{written_trailer};
 
-use crate::{Ending, Put, Tag};
+use crate::Tag;
 
 pub const TRAILER_SIZE: usize = 8;
+
+// What a trailer says: the frame's tag, and the length of its records.
+#[derive(Clone, Copy)]
+pub struct Trailer {
+    pub tag: Tag,
+    pub length: usize,
+}
 
 // The tag of a frame of this tracepoint.
 pub fn tag_of(tracepoint: u16) -> Tag
@@ -16,43 +23,43 @@ pub fn tag_of(tracepoint: u16) -> Tag
 }
 
 // Receives the free part of the buffer, as the writers of records do.
-pub fn write_trailer(free: &mut [u8], tag: Tag, length: u32) -> Put
+pub fn write_trailer(free: &mut [u8], tag: Tag, length: u32) -> Option<usize>
     ensures { Leaves (written_trailer free.old 0 tag length) result free.new }
 {
     if free.len() < TRAILER_SIZE {
-        return Put::Full;
+        return None;
     }
     free[0] = 0x46;
     free[1] = 0x00;
-    encoding::put_little(free, 2, tag.tracepoint as u64, 2);
-    encoding::put_little(free, 4, length as u64, 4);
-    Put::Bytes(TRAILER_SIZE)
+    encoding::put_little(free, 2, u64::from(tag.tracepoint), 2);
+    encoding::put_little(free, 4, u64::from(length), 4);
+    Some(TRAILER_SIZE)
 }
 
-pub fn append_trailer(buffer: &mut [u8], used: usize, tag: Tag, length: u32) -> Put
+pub fn append_trailer(buffer: &mut [u8], used: usize, tag: Tag, length: u32) -> Option<usize>
     ensures { Leaves (written_trailer buffer.old used tag length) result buffer.new }
 {
     if buffer.len() < used {
-        return Put::Full;
+        return None;
     }
     write_trailer(&mut buffer[used..], tag, length)
 }
 
 // The trailer that these bytes are.
-pub fn read_trailer(bytes: &[u8]) -> Ending
+pub fn read_trailer(bytes: &[u8]) -> Option<Trailer>
     ensures { result ≡ ending_of (decode_trailer bytes.now) }
 {
     if bytes.len() != TRAILER_SIZE {
-        return Ending::NoTrailer;
+        return None;
     }
     if bytes[0] != 0x46 {
-        return Ending::NoTrailer;
+        return None;
     }
     if bytes[1] != 0x00 {
-        return Ending::NoTrailer;
+        return None;
     }
     let tracepoint = encoding::little_endian(&bytes[2..4]) as u16;
-    let length = encoding::little_endian(&bytes[4..8]);
+    let length = encoding::little_endian(&bytes[4..8]) as usize;
     let tag = Tag { tracepoint };
-    Ending::Closes(tag, length as usize)
+    Some(Trailer { tag, length })
 }

@@ -1,9 +1,9 @@
 -- The loop over the starts: how it begins, what a turn keeps, and what holds when it ends.
 use mathlib.Core.Bool.{true}
 use mathlib.Core.List.{List, [], ◌∷◌, ◌++◌}
-use mathlib.Core.Path.{◌≡◌, ◌∙◌}
+use mathlib.Core.Path.{◌≡◌, refl, ap, sym, ◌∙◌, subst}
 use mathlib.Core.Logic.{◌≢◌, ⊎_elim}
-use Prim.Native.Nat.{ℕ, ◌+◌, ◌-◌, ◌≤◌, ◌<◌}
+use Prim.Native.Nat.{ℕ, zero, suc, ◌+◌, ◌-◌, ◌≤◌, ◌<◌}
 use native.Mathlib.Omega.{arith}
 use native.Mathlib.Decide.{ℕ_discrete}
 use lib.ListN.{get_or, length, set, replicate, length-set, length-replicate, get_or-replicate}
@@ -17,9 +17,11 @@ use Rattle.isa.proofs.Promises.{start_zero, start_in, start_next, before_next, w
 use Rattle.verdict.specs.Pass3.{unreached}
 use Rattle.verdict.specs.Acceptance.{Acceptable, Accepted, Ready}
 use Rattle.verdict.proofs.Promises.{accepted_means, fitting_accepted, begins, ready, goes_on, goes_forward}
-use Rattle.heights.specs.Arrivals.{Arrivals}
+use Rattle.std.proofs.Common.{Option, Some, None}
+use Rattle.std.proofs.lemmas.Option.{none-some}
+use Rattle.heights.specs.Arrivals.{marked, NoMark, Arrivals}
 use Rattle.heights.specs.Joining.Filling.{Room, Stored, Filling}
-use Rattle.heights.proofs.Storing.{row_cells, after_row}
+use Rattle.heights.proofs.Storing.{row_cells, after_row, marked_at, marked_set, no_mark_set}
 
 -- ---- what the verifier's page says of the last instruction of a walk
 module _ {e : List ℕ} (a : Acceptable e) where
@@ -51,7 +53,7 @@ pub record PassesOn (e : List ℕ) (k : ℕ) (hs : List ℕ) (n l : ℕ) : Type 
   pub room : Room e k hs
 
 -- ---- before the first turn
-pub filling_start : {e : List ℕ} → Acceptable e → Filling e 0 (set (replicate 1024 unreached) 0 0)
+filling_start : {e : List ℕ} → Acceptable e → Filling e 0 (set (replicate 1024 unreached) 0 0)
 filling_start {e} a =
     let l = length-replicate {A = ℕ} 1024 unreached in
     let z = get_or-set_same (replicate 1024 unreached) 0 0 0 (omega arith) in
@@ -67,6 +69,24 @@ filling_start {e} a =
           ];
       told = λ k h. absurd (omega arith);
     }
+
+none_at : (n j : ℕ) → get_or (replicate {A = Option ℕ} n None) j None ≡ None
+none_at zero j = refl
+none_at (suc n) zero = refl
+none_at (suc n) (suc j) = none_at n j
+
+pub marked_none : (n : ℕ) → marked (replicate n None) ≡ replicate n unreached
+marked_none zero = refl
+marked_none (suc n) = ap (λ (l : List ℕ). unreached ∷ l) (marked_none n)
+
+pub no_mark_none : (n : ℕ) → NoMark (replicate n None)
+no_mark_none n j h p = absurd (none-some h (sym (none_at n j) ∙ p))
+
+pub no_mark_start : NoMark (set (replicate 1024 None) 0 (Some 0))
+no_mark_start = no_mark_set (replicate 1024 None) (no_mark_none 1024) 0 0 (omega (arith, length-replicate {A = Option ℕ} 1024 None)) (omega arith)
+
+pub filling_begin : {e : List ℕ} → Acceptable e → Filling e 0 (marked (set (replicate 1024 None) 0 (Some 0)))
+filling_begin {e} a = subst (Filling e 0) (sym (marked_set (replicate 1024 None) 0 0 ∙ ap (λ (l : List ℕ). set l 0 0) (marked_none 1024))) (filling_start a)
 
 module _ {e : List ℕ} {i : ℕ} {hs : List ℕ} (f : Filling e i hs) where
   -- what is known of a start whose cell is not 255
@@ -154,3 +174,19 @@ module _ {e : List ℕ} {i : ℕ} {hs : List ℕ} (f : Filling e i hs) where
 
     pub filling_end : Arrivals e hs
     filling_end = record { long = f.long; arrived = λ x. arrives x (omega arith) f.begin; reached = f.shown }
+
+-- ---- a start whose cell has the height h, by its row
+pub record Standing (e : List ℕ) (k h : ℕ) (hs : List ℕ) (n l : ℕ) : Type 0 where
+  pub reached : get_or hs k 0 ≢ unreached
+  pub cells : n ≤ h
+  pub after : h - n + l ≡ height_after e k (get_or hs k 0)
+  pub low : height_after e k (get_or hs k 0) ≤ 64
+  pub room : Room e k hs
+
+pub standing : {e : List ℕ} {k : ℕ} (hs : List (Option ℕ)) → Filling e k (marked hs) → k < length e → NoMark hs → length hs ≡ 1024 → {h : ℕ} → get_or hs k None ≡ Some h
+    → {r : Row} → IsRow (get_or e k 0) r → Standing e k h (marked hs) r.needed r.left
+standing {e} {k} hs f i m l {h} p {r} q =
+    let x : get_or (marked hs) k 0 ≡ h = marked_at hs k (Some h) l (omega (arith, f.acceptable.sized.short)) p in
+    let n : get_or (marked hs) k 0 ≢ unreached = λ z. m k h p (sym x ∙ z) in
+    let g = going f k (f.start i) n q in
+    record { reached = n; cells = omega (arith, g.cells); after = ap (λ (y : ℕ). y - r.needed + r.left) (sym x) ∙ g.after; low = g.low; room = g.room }

@@ -3,117 +3,92 @@
 // comes.
 #![tactic(auto)]
 
-ghost use Rattle.std.specs.Prelude.{◌≡◌, ◌<◌, length, get_or, replicate};
+ghost use Rattle.std.specs.Prelude.{◌≡◌, ◌≢◌, ◌<◌, None, length, get_or, replicate};
 ghost use Rattle.isa.specs.Decode.{next};
-ghost use Rattle.isa.specs.Joining.Rows.{table, IsRow};
+ghost use Rattle.isa.specs.Joining.Rows.{IsRow};
 ghost use Rattle.sizes.specs.Sizes.{expression_most};
 ghost use Rattle.verdict.specs.Pass3.{unreached};
 ghost use Rattle.verdict.specs.Acceptance.{Acceptable};
-ghost use Rattle.heights.specs.Arrivals.{Arrivals, Answered};
+ghost use Rattle.heights.specs.Arrivals.{marked, NoMark, Arrivals, Answered};
 ghost use Rattle.heights.specs.Joining.Filling.{AtTarget, AtNext, Room, Stored, Filling};
 
-use isa::Row;
-use verdict::Verification;
+use isa::{Row, Rows};
+use refusals::Refusal;
+use verdict::Accepted;
 
-// The verifier's answer, and for each offset the height with which walks arrive there, or `verdict::UNREACHED`. Of a
-// refused expression no cell has a height.
-pub fn heights(e: &[u8], heights: &mut [u8; sizes::EXPRESSION_MOST]) -> Verification
-    ensures { Answered e.now result heights.new }
+// For each offset the height with which walks arrive there, if any does.
+pub type HeightTable = [Option<u8>; sizes::EXPRESSION_MOST];
+
+// The verifier's answer, and the heights. Of a refused expression no offset has one.
+pub fn heights(e: &[u8], heights: &mut HeightTable) -> Result<Accepted, Refusal>
+    ensures answered { Answered e.now result (marked heights.new) }
+    ensures no_mark { NoMark heights.new }
 {
-    heights_by(&isa::ROWS, e, heights)
+    *heights = [None; sizes::EXPRESSION_MOST];
+    let rows = Rows::new();
+    let accepted = verifier::verify_by(&rows, e)?;
+    fill(&rows, e, heights);
+    Ok(accepted)
 }
 
-fn heights_by(
-    rows: &[[u8; 4]; 53],
-    e: &[u8],
-    heights: &mut [u8; sizes::EXPRESSION_MOST],
-) -> Verification
-    requires { rows.now ≡ table }
-    ensures { Answered e.now result heights.new }
-{
-    *heights = [verdict::UNREACHED; sizes::EXPRESSION_MOST];
-    let answer = verifier::verify_by(rows, e);
-    match answer {
-        Verification::Refused(_) => answer,
-        Verification::Accepted(_, _, _) => {
-            fill(rows, e, heights);
-            answer
-        }
-    }
-}
-
-// The starts in rising order: all walks that arrive at a start have arrived before its turn.
-fn fill(rows: &[[u8; 4]; 53], e: &[u8], heights: &mut [u8; sizes::EXPRESSION_MOST])
-    requires rows { rows.now ≡ table }
+// The starts in rising order: all walks that arrive at a start have arrived before its turn. The next start lies behind
+// the operands of this one, so that no range has them.
+fn fill(rows: &Rows, e: &[u8], heights: &mut HeightTable)
     requires acceptable { Acceptable e.now }
-    requires blank { heights.old ≡ replicate expression_most unreached }
-    ensures { Arrivals e.now heights.new }
+    requires blank { heights.old ≡ replicate expression_most None }
+    ensures arrivals { Arrivals e.now (marked heights.new) }
+    ensures no_mark { NoMark heights.new }
 {
-    heights[0] = 0;
+    heights[0] = Some(0);
     let mut at = 0;
     while at < e.len() {
-        let row = isa::row_of(rows, e[at]);
+        let row = rows.of(e[at]);
         step(row, e, at, heights);
-        at = at + 1 + row.operands as usize;
+        at += 1 + usize::from(row.operands);
     }
 }
 
 // One start: the walks that reach it go on. The N of pick N is both needed and left, so that the row is enough.
-fn step(row: Row, e: &[u8], at: usize, heights: &mut [u8; sizes::EXPRESSION_MOST])
+fn step(row: Row, e: &[u8], at: usize, heights: &mut HeightTable)
     requires at { at < length e.now }
     requires row { IsRow (get_or e.now at 0) row }
-    requires filling { Filling e.now at heights.old }
-    ensures { Filling e.now (next e.now at) heights.new }
+    requires filling { Filling e.now at (marked heights.old) }
+    requires no_mark { NoMark heights.old }
+    ensures filling { Filling e.now (next e.now at) (marked heights.new) }
+    ensures no_mark { NoMark heights.new }
 {
-    let height = heights[at];
-    if height == verdict::UNREACHED {
+    let Some(height) = heights[at] else {
         return;
-    }
+    };
     let after = height - row.needed + row.left;
     store_at_target(row, e, at, after, heights);
     store_at_next(row, e, at, after, heights);
 }
 
 // They arrive at its target, where it is a jump.
-fn store_at_target(
-    row: Row,
-    e: &[u8],
-    at: usize,
-    after: u8,
-    heights: &mut [u8; sizes::EXPRESSION_MOST],
-)
+fn store_at_target(row: Row, e: &[u8], at: usize, after: u8, heights: &mut HeightTable)
     requires row { IsRow (get_or e.now at 0) row }
-    requires room { Room e.now at heights.old }
-    ensures { Stored (AtTarget e.now at) after heights.old heights.new }
+    requires room { Room e.now at (marked heights.old) }
+    requires no_mark { (after ≢ unreached) × NoMark heights.old }
+    ensures stored { Stored (AtTarget e.now at) after (marked heights.old) (marked heights.new) }
+    ensures no_mark { NoMark heights.new }
 {
-    if row.kind < isa::GOTO {
-        return;
+    if row.kind.is_jump() {
+        let target = isa::operand_at(e, at, 2) as usize;
+        heights[target] = Some(after);
     }
-    if isa::IF_GOTO < row.kind {
-        return;
-    }
-    let target = isa::operand_at(e, at, 2) as usize;
-    heights[target] = after;
 }
 
 // They arrive at the next start, where that may follow.
-fn store_at_next(
-    row: Row,
-    e: &[u8],
-    at: usize,
-    after: u8,
-    heights: &mut [u8; sizes::EXPRESSION_MOST],
-)
+fn store_at_next(row: Row, e: &[u8], at: usize, after: u8, heights: &mut HeightTable)
     requires row { IsRow (get_or e.now at 0) row }
-    requires room { Room e.now at heights.old }
-    ensures { Stored (AtNext e.now at) after heights.old heights.new }
+    requires room { Room e.now at (marked heights.old) }
+    requires no_mark { (after ≢ unreached) × NoMark heights.old }
+    ensures stored { Stored (AtNext e.now at) after (marked heights.old) (marked heights.new) }
+    ensures no_mark { NoMark heights.new }
 {
-    if row.kind == isa::GOTO {
-        return;
+    if row.kind.goes_on() {
+        let next = at + 1 + usize::from(row.operands);
+        heights[next] = Some(after);
     }
-    if row.kind == isa::END {
-        return;
-    }
-    let next = at + 1 + row.operands as usize;
-    heights[next] = after;
 }

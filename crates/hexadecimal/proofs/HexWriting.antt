@@ -1,7 +1,7 @@
 -- Laws of bytes written in hexadecimal, for the proofs of the functions of `hex`, and that they are read back. Assumes
 -- nothing.
 use Prim.Native.Nat.{ℕ, zero, suc, ◌+◌, ◌-◌, ◌/◌, ◌%◌, ◌≤◌, ◌<◌}
-use native.Mathlib.Nat.{mod-lt, div-add-mod'}
+use native.Mathlib.Nat.{mod-lt, div-add-mod', pow-le-pow_right}
 use native.Mathlib.Omega.{arith}
 use native.Mathlib.Numerals.{add-one}
 use native.Mathlib.Decide.{dec_lt}
@@ -12,11 +12,10 @@ use lib.Dec.{eqb, lit<}
 use lib.ListN.{length, take, get_or}
 use lib.Seq.{take-suc, take_all}
 use borrow.Author.Tests.{lt-ltb, le-ltb, ne_eqb}
-use Rattle.io.specs.Digits.{hex_digit_ascii}
+use Rattle.io.specs.Digits.{hex_digit_ascii, last_digits, IsDigitCount}
 use Rattle.encoding.specs.Ranges.{AllBytes}
-use Rattle.hexadecimal.specs.Hex.{is_blank, is_separator, digit_of, after_high, digits_of, is_prefixed, token_of, whole, with_bytes, read_past_of, read_from, pair_of, hex_of}
+use Rattle.hexadecimal.specs.Hex.{is_blank, is_separator, digit_of, after_high, digits_of, is_prefixed, token_of, whole, with_bytes, read_past_of, read_from, pair_of, hex_of, Byte}
 use Rattle.text_buffer.specs.Text.{Appends}
-use Rattle.hexadecimal.specs.declared.Token.TheVariants.{Byte}
 use Rattle.text_buffer.proofs.Promises.{appends_then, appends_same, appends_nothing}
 use Rattle.hexadecimal.proofs.Hexing.{inside, above}
 
@@ -29,6 +28,16 @@ glyph_high d h = rw (le-ltb d 10 h)
 
 pub pair_is : (b high low : ℕ) → high ≡ hex_digit_ascii (b / 16) → low ≡ hex_digit_ascii (b % 16) → high ∷ low ∷ [] ≡ pair_of b
 pair_is b high low e f = ap (λ (x : ℕ). x ∷ low ∷ []) e ∙ ap (λ (x : ℕ). hex_digit_ascii (b / 16) ∷ x ∷ []) f
+
+-- as `io::hex` ensures them
+pub spelt : (b k : ℕ) (l : List ℕ) → b < 256 → IsDigitCount 16 2 b k → l ≡ last_digits 16 k b → l ≡ pair_of b
+spelt b k l low w e =
+    let is : k ≡ 2 = elim (dec_lt 2 k) [
+      | yes g ↦ absurd (omega (arith, low, w.2 g, pow-le-pow_right (lit< {m = 0} {n = 16} tt) {i = 2} {j = k - 1} (omega (arith, g))))
+      | no h ↦ omega (arith, w.0, h)
+    ] in
+    let h : b / 16 % 16 ≡ b / 16 = omega (arith, low) in
+    e ∙ ap (λ (j : ℕ). last_digits 16 j b) is ∙ ap (λ (x : ℕ). hex_digit_ascii x ∷ hex_digit_ascii (b % 16) ∷ []) h
 
 -- ---- i bytes of s are written after the text that ended at `at` in the buffer b₀
 pub record Encoding (b₀ : List ℕ) (at : ℕ) (s b : List ℕ) (n i : ℕ) : Type 0 where

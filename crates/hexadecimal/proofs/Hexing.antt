@@ -4,18 +4,23 @@ use native.Mathlib.Omega.{arith}
 use native.Mathlib.Numerals.{add-one}
 use native.Mathlib.Decide.{dec_lt}
 use mathlib.Core.Bool.{Bool, true, false, cond, ◌&&◌}
-use mathlib.Core.Path.{◌≡◌, refl, sym, ap, ◌∙◌}
+use mathlib.Core.Path.{◌≡◌, refl, sym, ap, subst, ◌∙◌}
 use mathlib.Core.List.{List, [], ◌∷◌, ◌++◌, append-nil, append_assoc}
+use Rattle.std.specs.Prelude.{not, Result, Ok, Err}
+use Rattle.std.specs.List.{prefix_len, take_while, starts_with}
+use Rattle.std.proofs.lemmas.List.Folds.{length-prefix_len}
+use Rattle.std.specs.Result.{is_ok}
 use lib.Dec.{ltb, leb, eqb}
-use lib.ListN.{length, drop, set, get_or, length-set, length-append, length-drop, drop_of_length-le, get_or-eq_default}
-use lib.Seq.{drop-cons, drop-drop, set_at}
+use lib.ListN.{length, drop, set, get_or, length-set, length-append, length-drop, drop_of_length-le}
+use lib.Seq.{drop-cons, drop-drop, get_or-drop, set_at}
 use borrow.Author.Tests.{le-leb, lt-leb, lt-ltb, le-ltb, eq-eqb, ne_eqb, eqb-true}
-use Rattle.hexadecimal.specs.Hex.{is_between, is_blank, is_separator, line_length, digit_of, after_high, digits_of, is_prefixed, by_prefix, is_digit_at, prefixed_of, token_of}
-use Rattle.hexadecimal.specs.Hex.{End, whole, wrong, single, full, HexReading, stopped, with_bytes, by_token, read_past_of, read_from, reading_of, answer_for, hex_answer_of, written_over}
-use Rattle.hexadecimal.specs.declared.Token.{Token}
-use Rattle.hexadecimal.specs.declared.Token.TheVariants.{Skip, Byte, Wrong, Single}
-use Rattle.hexadecimal.specs.declared.HexAnswer.{HexAnswer}
-use Rattle.hexadecimal.specs.declared.HexAnswer.TheVariants.{Bytes, NotHex, Odd, TooLong}
+use Rattle.hexadecimal.specs.Hex.{is_between, is_separator, line_length, digit_of, after_high, digits_of, is_prefixed, by_prefix, is_digit_at, prefixed_of, token_of, Token, Skip, Byte, Wrong, Single}
+use Rattle.hexadecimal.specs.Hex.{End, whole, wrong, single, full, HexReading, stopped, with_bytes, by_token, read_past_of, read_from, reading_of, written_over}
+use Rattle.hexadecimal.specs.Told.{first_digit, digit_found, byte_told, token_told, answer_for, hex_answer_of}
+use Rattle.hexadecimal.specs.declared.Token.{Token as Begun}
+use Rattle.hexadecimal.specs.declared.Token.TheVariants.{Skip as Passed, Byte as Spelled}
+use Rattle.hexadecimal.specs.declared.HexError.{HexError}
+use Rattle.hexadecimal.specs.declared.HexError.TheVariants.{NotHex, Odd, TooLong}
 
 -- ---- a character in one of the three ranges of digits, or in none
 
@@ -33,139 +38,121 @@ module _ (a b c : ℕ) where
   pub above : b < c → is_between a b c ≡ false
   above h = rw (lt-leb c b h) (both_false (leb a c))
 
-pub last_blank : (c : ℕ) → (c ≡ 32 → ⊥) → (c ≡ 9 → ⊥) → (c ≡ 10 → ⊥) → eqb c 13 ≡ is_blank c
-unfolding is_blank
-last_blank c g h k = rw (ne_eqb c 32 g, ne_eqb c 9 h, ne_eqb c 10 k)
+-- ---- a comment: what is left of the text once it is over
+line_prefix : (s : List ℕ) → prefix_len (λ c. not (eqb c 10)) s ≡ line_length s
+unfolding line_length
+line_prefix [] = refl
+line_prefix (c ∷ t) = elim (eqb c 10) as (λ b. cond (not b) (1 + prefix_len (λ c. not (eqb c 10)) t) 0 ≡ cond b 0 (suc (line_length t))) [ true ↦ refl | false ↦ omega (arith, line_prefix t) ]
 
--- ---- a separator
-module _ (c : ℕ) where
-  pub separator_blank : is_blank c ≡ true → true ≡ is_separator c
-  unfolding is_separator
-  separator_blank b = rw b
-
-  module _ (b : is_blank c ≡ false) where
-    pub separator_comma : c ≡ 44 → true ≡ is_separator c
-    unfolding is_separator
-    separator_comma e = rw (b, eq-eqb c 44 e)
-
-    module _ (f : c ≡ 44 → ⊥) where
-      pub separator_colon : c ≡ 58 → true ≡ is_separator c
-      unfolding is_separator
-      separator_colon e = rw (b, ne_eqb c 44 f, eq-eqb c 58 e)
-
-      module _ (g : c ≡ 58 → ⊥) where
-        pub separator_open : c ≡ 123 → true ≡ is_separator c
-        unfolding is_separator
-        separator_open e = rw (b, ne_eqb c 44 f, ne_eqb c 58 g, eq-eqb c 123 e)
-
-        pub separator_close : (c ≡ 123 → ⊥) → eqb c 125 ≡ is_separator c
-        unfolding is_separator
-        separator_close h = rw (b, ne_eqb c 44 f, ne_eqb c 58 g, ne_eqb c 123 h)
-
--- ---- a comment: n characters of the text s are no line feed, and the rest is to be counted
-pub record Commenting (s : List ℕ) (n : ℕ) : Type 0 where
-  pub within : n ≤ length s
-  pub count : line_length s ≡ n + line_length (drop n s)
-
-pub commenting_start : (s : List ℕ) → Commenting s 0
-commenting_start s = record { within = omega arith; count = omega arith }
+pub line_is : (s : List ℕ) → length (take_while (λ c. not (eqb c 10)) s) ≡ line_length s
+line_is s = length-prefix_len (λ c. not (eqb c 10)) s ∙ line_prefix s
 
 pub starts : (s : List ℕ) (at : ℕ) → at < length s → drop at s ≡ get_or s at 0 ∷ drop (at + 1) s
 starts s at within = rw (add-one, drop-cons s at 0)
-
-module _ {s : List ℕ} {n : ℕ} (c : Commenting s n) where
-  pub commenting_end : length s ≤ n → (n ≡ line_length s) × (n ≤ length s)
-  unfolding line_length
-  commenting_end h = (omega (arith, c.count, ap line_length (drop_of_length-le s h)), c.within)
-
-  pub commenting_more : n < length s → (get_or s n 0 ≡ 10 → ⊥) → Commenting s (n + 1)
-  unfolding line_length
-  commenting_more h f =
-      let e : line_length (drop n s) ≡ suc (line_length (drop (n + 1) s)) = rw (starts s n h, ne_eqb (get_or s n 0) 10 f) refl in
-      record { within = omega arith; count = omega (arith, c.count, e) }
-
-  pub commenting_stop : n < length s → get_or s n 0 ≡ 10 → (n ≡ line_length s) × (n ≤ length s)
-  unfolding line_length
-  commenting_stop h t =
-      let e : line_length (drop n s) ≡ 0 = rw (starts s n h, eq-eqb (get_or s n 0) 10 t) refl in
-      (omega (arith, c.count, e), c.within)
 
 least_chosen : (b : Bool) (x y m : ℕ) → x ≤ m → y ≤ m → cond b x y ≤ m
 least_chosen true x y m p q = p
 least_chosen false x y m p q = q
 
-line_short : (s : List ℕ) → line_length s ≤ length s
+pub line_short : (s : List ℕ) → line_length s ≤ length s
 unfolding line_length
 line_short [] = omega arith
 line_short (c ∷ t) = least_chosen (eqb c 10) 0 (suc (line_length t)) (suc (length t)) (omega arith) (omega (arith, line_short t))
 
--- ---- two digits
-module _ (s : List ℕ) (at : ℕ) where
-  pub digits_none : length s ≤ at → Single ≡ digits_of at (drop at s)
-  unfolding digits_of
-  digits_none h = rw (drop_of_length-le s h)
+-- ---- two digits, by what stands at each of the two places
+abbrev pub pairing : Result ℕ HexError → Result ℕ HexError → Result ℕ HexError
+pairing (Err e) q = Err e
+pairing (Ok high) (Err e) = Err e
+pairing (Ok high) (Ok low) = Ok (high * 16 + low)
 
-  module _ (within : at < length s) where
-    pub digits_wrong : 15 < digit_of (get_or s at 0) → Wrong at ≡ digits_of at (drop at s)
-    unfolding digits_of
-    digits_wrong h = rw (starts s at within, lt-ltb 15 (digit_of (get_or s at 0)) h)
+low_by : (p high : ℕ) (t : List ℕ) → pairing (Ok high) (first_digit (p + 1) t) ≡ byte_told (after_high p high t)
+unfolding after_high
+low_by p high [] = refl
+low_by p high (c ∷ t) =
+    elim (ltb 15 (digit_of c)) as (λ b. pairing (Ok high) (cond b (Err (NotHex (p + 1))) (Ok (digit_of c))) ≡ byte_told (cond b (Wrong (p + 1)) (Byte (high * 16 + digit_of c) 2))) [
+      | true ↦ refl
+      | false ↦ refl
+    ]
 
-    module _ (h : digit_of (get_or s at 0) ≤ 15) where
-      digits_high : digits_of at (drop at s) ≡ after_high at (digit_of (get_or s at 0)) (drop (at + 1) s)
-      unfolding digits_of
-      digits_high = rw (starts s at within, le-ltb 15 (digit_of (get_or s at 0)) h)
+digits_first : (p : ℕ) (l : List ℕ) → pairing (first_digit p l) (first_digit (p + 1) (drop 1 l)) ≡ byte_told (digits_of p l)
+unfolding digits_of
+digits_first p [] = refl
+digits_first p (c ∷ t) =
+    elim (ltb 15 (digit_of c)) as (λ b. pairing (cond b (Err (NotHex p)) (Ok (digit_of c))) (first_digit (p + 1) t) ≡ byte_told (cond b (Wrong p) (after_high p (digit_of c) t))) [
+      | true ↦ refl
+      | false ↦ low_by p (digit_of c) t
+    ]
 
-      pub digits_single : length s ≤ at + 1 → Single ≡ digits_of at (drop at s)
-      unfolding after_high
-      digits_single e = sym (digits_high ∙ rw (drop_of_length-le s e))
-
-      pub digits_low : at + 1 < length s → 15 < digit_of (get_or s (at + 1) 0) → Wrong (at + 1) ≡ digits_of at (drop at s)
-      unfolding after_high
-      digits_low k l = sym (digits_high ∙ rw (drop-cons s (at + 1) 0 k, lt-ltb 15 (digit_of (get_or s (at + 1) 0)) l))
-
-      pub digits_byte : at + 1 < length s → (high low : ℕ) → high ≡ digit_of (get_or s at 0) → low ≡ digit_of (get_or s (at + 1) 0) → low ≤ 15
-          → Byte (high * 16 + low) 2 ≡ digits_of at (drop at s)
-      unfolding after_high
-      digits_byte k high low e f l =
-          let g : ltb 15 (digit_of (get_or s (at + 1) 0)) ≡ false = le-ltb 15 (digit_of (get_or s (at + 1) 0)) (omega (arith, f, l)) in
-          rw (e, f) (sym (digits_high ∙ rw (drop-cons s (at + 1) 0 k, g)))
+pub digits_by : (s : List ℕ) (at : ℕ) (r q : Result ℕ HexError) → r ≡ digit_found s at → q ≡ digit_found s (at + 1) → pairing r q ≡ byte_told (digits_of at (drop at s))
+digits_by s at r q e f =
+    ap (λ (x : Result ℕ HexError). pairing x q) e
+    ∙ ap (pairing (digit_found s at)) (f ∙ ap (first_digit (at + 1)) (sym (drop-drop 1 at s)))
+    ∙ digits_first at (drop at s)
 
 -- ---- with 0x in front
-no_second : (b c : Bool) → c ≡ false → false ≡ b && c
-no_second true c e = sym e
-no_second false c e = refl
+eqb_turned : (a b : ℕ) → eqb a b ≡ eqb b a
+eqb_turned a b =
+    elim (dec_lt a b) [
+      | yes h ↦ rw (ne_eqb a b (λ z. omega (arith, h, z)), ne_eqb b a (λ z. omega (arith, h, z)))
+      | no h ↦
+          elim (dec_lt b a) [
+            | yes g ↦ rw (ne_eqb a b (λ z. omega (arith, g, z)), ne_eqb b a (λ z. omega (arith, g, z)))
+            | no g ↦ let e : a ≡ b = omega arith in rw e
+          ]
+    ]
 
-module _ (s : List ℕ) where
-  pub prefixed_short : length s < 2 → false ≡ is_prefixed s
-  unfolding is_prefixed
-  prefixed_short h = no_second (eqb (get_or s 0 0) 48) (eqb (get_or s 1 0) 120) (rw (get_or-eq_default s 0 {n = 1} (omega arith)) refl)
+and_true : (b : Bool) → b && true ≡ b
+and_true true = refl
+and_true false = refl
 
-  pub prefixed_second : get_or s 0 0 ≡ 48 → (r : Bool) → r ≡ eqb (get_or s 1 0) 120 → r ≡ is_prefixed s
-  unfolding is_prefixed
-  prefixed_second h r e = e ∙ rw (eq-eqb (get_or s 0 0) 48 h)
+-- as the library tests it
+pub prefixed_is : (s : List ℕ) → starts_with eqb s (48 ∷ 120 ∷ []) ≡ is_prefixed s
+unfolding is_prefixed
+prefixed_is [] = refl
+prefixed_is (c ∷ []) = ap (λ (b : Bool). b && false) (eqb_turned 48 c)
+prefixed_is (c ∷ d ∷ t) = (λ i. eqb_turned 48 c i && (eqb_turned 120 d i && true)) ∙ ap (λ (b : Bool). eqb c 48 && b) (and_true (eqb d 120))
 
-  pub prefixed_other : (get_or s 0 0 ≡ 48 → ⊥) → false ≡ is_prefixed s
-  unfolding is_prefixed
-  prefixed_other f = rw (ne_eqb (get_or s 0 0) 48 f)
+pub prefixed_long : (s : List ℕ) → is_prefixed s ≡ true → 2 ≤ length s
+unfolding is_prefixed
+prefixed_long [] e = let z : ◌≡◌ {A = ℕ} 0 1 = cc in absurd (omega arith)
+prefixed_long (c ∷ []) e = elim (eqb c 48) as (λ b. b && false ≡ true → 2 ≤ 1) [ true ↦ λ h. (let z : ◌≡◌ {A = ℕ} 0 1 = cc in absurd (omega arith)) | false ↦ λ h. (let z : ◌≡◌ {A = ℕ} 0 1 = cc in absurd (omega arith)) ] e
+prefixed_long (c ∷ d ∷ t) e = omega arith
 
-  pub prefixed_long : (r : Bool) → r ≡ is_prefixed s → r ≡ true → 2 ≤ length s
-  prefixed_long r e t =
-      elim (dec_lt (length s) 2) [
-        | yes h ↦ (let z : ◌≡◌ {A = Bool} false true = prefixed_short h ∙ sym e ∙ t in let y : ◌≡◌ {A = ℕ} 0 1 = cc in absurd (omega arith))
-        | no h ↦ omega arith
-      ]
+-- 0x, two digits, and whether there is a third one
+abbrev pub prefixing : ℕ → Result ℕ HexError → Bool → Result ℕ HexError
+prefixing p (Err e) third = Err e
+prefixing p (Ok x) third = cond third (Err (NotHex (p + 4))) (Ok x)
 
-  pub digit_past : (k : ℕ) → length s ≤ k → false ≡ is_digit_at s k
-  unfolding is_digit_at digit_of
-  digit_past k h = rw (get_or-eq_default s 0 h)
+prefix_told : (p : ℕ) (d : Token) (third : Bool) → prefixing p (byte_told d) third ≡ byte_told (by_prefix p d third)
+prefix_told p (Skip n) third = refl
+prefix_told p (Byte x n) true = refl
+prefix_told p (Byte x n) false = refl
+prefix_told p (Wrong q) third = refl
+prefix_told p Single third = refl
 
-pub digit_there : (s : List ℕ) (k d : ℕ) → d ≡ digit_of (get_or s k 0) → leb d 15 ≡ is_digit_at s k
+digit_first : (p : ℕ) (l : List ℕ) → is_ok (first_digit p l) ≡ leb (digit_of (get_or l 0 0)) 15
+unfolding digit_of
+digit_first p [] = refl
+digit_first p (c ∷ t) =
+    elim (dec_lt 15 (digit_of c)) [
+      | yes h ↦ rw (lt-ltb 15 (digit_of c) h, lt-leb (digit_of c) 15 h)
+      | no h ↦ rw (le-ltb 15 (digit_of c) (omega arith), le-leb (digit_of c) 15 (omega arith))
+    ]
+
+third_digit : (s : List ℕ) (at : ℕ) → is_ok (digit_found s (at + 4)) ≡ is_digit_at (drop at s) 4
 unfolding is_digit_at
-digit_there s k d e = rw e
+third_digit s at =
+    let z : at + 4 + 0 ≡ at + 4 = omega arith in
+    digit_first (at + 4) (drop (at + 4) s)
+    ∙ ap (λ (c : ℕ). leb (digit_of c) 15) (get_or-drop (at + 4) s 0 0 ∙ ap (λ (i : ℕ). get_or s i 0) z ∙ sym (get_or-drop at s 4 0))
 
-pub prefixed_by : (s : List ℕ) (at : ℕ) (d : Token) → d ≡ digits_of (at + 2) (drop (at + 2) s) → (third : Bool) → third ≡ is_digit_at (drop at s) 4 → by_prefix at d third ≡ prefixed_of at (drop at s)
+pub prefixed_by : (s : List ℕ) (at : ℕ) (d : Result ℕ HexError) (q : Result ℕ HexError) → d ≡ byte_told (digits_of (at + 2) (drop (at + 2) s)) → q ≡ digit_found s (at + 4)
+    → prefixing at d (is_ok q) ≡ byte_told (prefixed_of at (drop at s))
 unfolding prefixed_of
-prefixed_by s at d e third f = rw (e, f, ← (drop-drop 2 at s))
+prefixed_by s at d q e f =
+    ap (λ (x : Result ℕ HexError). prefixing at x (is_ok q)) (e ∙ ap (λ (l : List ℕ). byte_told (digits_of (at + 2) l)) (sym (drop-drop 2 at s)))
+    ∙ ap (λ (t : Bool). prefixing at (byte_told (digits_of (at + 2) (drop 2 (drop at s)))) t) (ap is_ok f ∙ third_digit s at)
+    ∙ prefix_told at (digits_of (at + 2) (drop 2 (drop at s))) (is_digit_at (drop at s) 4)
 
 -- ---- the token at a position
 module _ (s : List ℕ) (at : ℕ) (within : at < length s) where
@@ -250,6 +237,58 @@ token_sized p (c ∷ t) h =
     (λ _. prefix_sized p (digits_of (p + 2) (drop 2 s)) (is_digit_at s 4) (length (drop 2 s)) m (digits_paired (p + 2) (drop 2 s)) (length-drop 2 s))
     (λ _. paired_sized (digits_of p s) m (digits_paired p s))))
 
+-- ---- a byte that is told with its number of characters
+abbrev pub spelling : ℕ → Result ℕ HexError → Result Begun HexError
+spelling n (Ok x) = Ok (Spelled x n)
+spelling n (Err e) = Err e
+
+paired_told : (d : Token) (m : ℕ) → Paired d m → spelling 2 (byte_told d) ≡ token_told d
+paired_told (Skip n) m q = absurd q
+paired_told (Byte x n) m q = ap (λ (k : ℕ). Ok (Spelled x k)) (sym q.0)
+paired_told (Wrong p) m q = refl
+paired_told Single m q = refl
+
+pub digits_told : (p : ℕ) (s : List ℕ) → spelling 2 (byte_told (digits_of p s)) ≡ token_told (digits_of p s)
+digits_told p s = paired_told (digits_of p s) (length s) (digits_paired p s)
+
+by_prefix_told : (p : ℕ) (d : Token) (third : Bool) → spelling 4 (byte_told (by_prefix p d third)) ≡ token_told (by_prefix p d third)
+by_prefix_told p (Skip n) third = refl
+by_prefix_told p (Byte x n) true = refl
+by_prefix_told p (Byte x n) false = refl
+by_prefix_told p (Wrong q) third = refl
+by_prefix_told p Single third = refl
+
+pub prefix_told_whole : (p : ℕ) (s : List ℕ) → spelling 4 (byte_told (prefixed_of p s)) ≡ token_told (prefixed_of p s)
+unfolding prefixed_of
+prefix_told_whole p s = by_prefix_told p (digits_of (p + 2) (drop 2 s)) (is_digit_at s 4)
+
+module _ (s : List ℕ) (at : ℕ) (within : at < length s) (b : is_separator (get_or s at 0) ≡ false) (h : get_or s at 0 ≡ 35 → ⊥) (r : Result ℕ HexError) where
+  pub prefixed_token : is_prefixed (drop at s) ≡ true → r ≡ byte_told (prefixed_of at (drop at s)) → spelling 4 r ≡ token_told (token_of at (drop at s))
+  prefixed_token p e = ap (spelling 4) e ∙ prefix_told_whole at (drop at s) ∙ ap token_told (token_prefixed s at within b h p)
+
+  pub digits_token : is_prefixed (drop at s) ≡ false → r ≡ byte_told (digits_of at (drop at s)) → spelling 2 r ≡ token_told (token_of at (drop at s))
+  digits_token p e = ap (spelling 2) e ∙ digits_told at (drop at s) ∙ ap token_told (token_digits s at within b h p)
+
+-- ---- the token by what is told of it
+skip_told : (t : Token) (n : ℕ) → Ok (Passed n) ≡ token_told t → Skip n ≡ t
+skip_told (Skip m) n e = let h : n ≡ m = cc in ap Skip h
+skip_told (Byte x m) n e = let z : ◌≡◌ {A = ℕ} 0 1 = cc in absurd (omega arith)
+skip_told (Wrong p) n e = let z : ◌≡◌ {A = ℕ} 0 1 = cc in absurd (omega arith)
+skip_told Single n e = let z : ◌≡◌ {A = ℕ} 0 1 = cc in absurd (omega arith)
+
+byte_of_told : (t : Token) (x n : ℕ) → Ok (Spelled x n) ≡ token_told t → Byte x n ≡ t
+byte_of_told (Skip m) x n e = let z : ◌≡◌ {A = ℕ} 0 1 = cc in absurd (omega arith)
+byte_of_told (Byte y m) x n e = let h : x ≡ y = cc in let k : n ≡ m = cc in ap (λ (z : ℕ). Byte z n) h ∙ ap (Byte y) k
+byte_of_told (Wrong p) x n e = let z : ◌≡◌ {A = ℕ} 0 1 = cc in absurd (omega arith)
+byte_of_told Single x n e = let z : ◌≡◌ {A = ℕ} 0 1 = cc in absurd (omega arith)
+
+module _ {r : Result Begun HexError} {y : Begun} (e : r ≡ Ok y) where
+  pub told_skip : (t : Token) {n : ℕ} → y ≡ Passed n → r ≡ token_told t → Skip n ≡ t
+  told_skip t {n} f g = skip_told t n (sym (e ∙ ap (λ (b : Begun). Ok b) f) ∙ g)
+
+  pub told_byte : (t : Token) {x n : ℕ} → y ≡ Spelled x n → r ≡ token_told t → Byte x n ≡ t
+  told_byte t {x} {n} f g = byte_of_told t x n (sym (e ∙ ap (λ (b : Begun). Ok b) f) ∙ g)
+
 -- ---- a reading goes on after its first token
 read_past : (k p room : ℕ) (s : List ℕ) → k ≤ length s → read_past_of k p room s ≡ read_from (p + k) room (drop k s)
 unfolding read_past_of
@@ -298,8 +337,8 @@ decoding_start text o = record {
 }
 
 -- what `decode` ensures of its answer a and of the buffer that it leaves
-abbrev pub Ends : List ℕ → List ℕ → List ℕ → HexAnswer → Type 0
-Ends text o out a = (a ≡ hex_answer_of (reading_of text (length o))) × ((out ≡ written_over o (reading_of text (length o))) × ((m : ℕ) → a ≡ Bytes m → m ≤ length out))
+abbrev pub Ends : List ℕ → List ℕ → List ℕ → Result ℕ HexError → Type 0
+Ends text o out a = (a ≡ hex_answer_of (reading_of text (length o))) × ((out ≡ written_over o (reading_of text (length o))) × ((m : ℕ) → a ≡ Ok m → m ≤ length out))
 
 module _ {text o out : List ℕ} {n i : ℕ} (d : Decoding text o out n i) where
   decoding_stop : (e : End) → read_from i (length o - n) (drop i text) ≡ stopped e
@@ -309,11 +348,11 @@ module _ {text o out : List ℕ} {n i : ℕ} (d : Decoding text o out n i) where
       let r : reading_of text (length o) ≡ record { bytes = l; end = e } = d.rest ∙ ap (with_bytes l) h ∙ ap (λ (m : List ℕ). record { bytes = m; end = e }) (append-nil l) in
       (sym (ap hex_answer_of r), d.put ∙ ap (λ (j : ℕ). l ++ drop j o) (sym d.count) ∙ sym (ap (written_over o) r))
 
-  pub decoding_end : length text ≤ i → Ends text o out (Bytes n)
+  pub decoding_end : length text ≤ i → Ends text o out (Ok n)
   unfolding read_past_of
   decoding_end h =
       let s = decoding_stop whole (rw (drop_of_length-le text h)) in
-      (ap Bytes (sym d.count) ∙ s.0, (s.1, λ m q. let same : n ≡ m = cc in omega (arith, d.room, d.size)))
+      (ap (λ (k : ℕ). Ok k) (sym d.count) ∙ s.0, (s.1, λ m q. let same : n ≡ m = cc in omega (arith, d.room, d.size)))
 
 module _ {text o out : List ℕ} {n i : ℕ} (d : Decoding text o out n i) (more : i < length text) where
   -- what is left starts with the token t
@@ -364,18 +403,25 @@ module _ {text o out : List ℕ} {n i : ℕ} (d : Decoding text o out n i) (more
             ∙ ap (λ (m : List ℕ). record { bytes = m; end = more.end }) (sym (append_assoc l (x ∷ []) more.bytes));
       }
 
-  pub decoding_wrong : (p : ℕ) → Wrong p ≡ token_of i (drop i text) → Ends text o out (NotHex p)
+  pub decoding_wrong : (p : ℕ) → Wrong p ≡ token_of i (drop i text) → Ends text o out (Err (NotHex p))
   decoding_wrong p e =
       let s = decoding_stop d (wrong p) (next_reading (Wrong p) e) in
       (s.0, (s.1, λ m q. let z : ◌≡◌ {A = ℕ} 0 1 = cc in omega arith))
 
-  pub decoding_single : Single ≡ token_of i (drop i text) → Ends text o out Odd
+  pub decoding_single : Single ≡ token_of i (drop i text) → Ends text o out (Err Odd)
   decoding_single e =
       let s = decoding_stop d single (next_reading Single e) in
       (s.0, (s.1, λ m q. let z : ◌≡◌ {A = ℕ} 0 1 = cc in omega arith))
 
-  pub decoding_full : (x k : ℕ) → Byte x k ≡ token_of i (drop i text) → length out ≤ n → Ends text o out TooLong
+  pub decoding_full : (x k : ℕ) → Byte x k ≡ token_of i (drop i text) → length out ≤ n → Ends text o out (Err TooLong)
   decoding_full x k e h =
       let none : length o - n ≡ 0 = omega (arith, d.size) in
       let s = decoding_stop d full (next_reading (Byte x k) e ∙ rw none refl) in
       (s.0, (s.1, λ m q. let z : ◌≡◌ {A = ℕ} 0 1 = cc in omega arith))
+
+  -- no token
+  pub decoding_err : (e : HexError) (t : Token) → t ≡ token_of i (drop i text) → Err e ≡ token_told t → Ends text o out (Err e)
+  decoding_err e (Skip n) q r = let z : ◌≡◌ {A = ℕ} 0 1 = cc in absurd (omega arith)
+  decoding_err e (Byte x n) q r = let z : ◌≡◌ {A = ℕ} 0 1 = cc in absurd (omega arith)
+  decoding_err e (Wrong p) q r = let h : NotHex p ≡ e = cc in subst (λ (f : HexError). Ends text o out (Err f)) h (decoding_wrong p q)
+  decoding_err e Single q r = let h : Odd ≡ e = cc in subst (λ (f : HexError). Ends text o out (Err f)) h (decoding_single q)

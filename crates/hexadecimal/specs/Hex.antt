@@ -1,10 +1,6 @@
 -- What a hexadecimal text spells. Assumes nothing.
 use Rattle.std.specs.Prelude.{ℕ, zero, suc, ◌+◌, ◌-◌, ◌*◌, ◌/◌, ◌%◌, Bool, true, false, cond, ◌&&◌, List, [], ◌∷◌, ◌++◌, ltb, leb, eqb, length, drop, get_or}
 use Rattle.io.specs.Digits.{hex_digit_ascii}
-use Rattle.hexadecimal.specs.declared.Token.{Token}
-use Rattle.hexadecimal.specs.declared.Token.TheVariants.{Skip, Byte, Wrong, Single}
-use Rattle.hexadecimal.specs.declared.HexAnswer.{HexAnswer}
-use Rattle.hexadecimal.specs.declared.HexAnswer.TheVariants.{Bytes, NotHex, Odd, TooLong}
 
 -- c is one of the characters from a to b
 abbrev pub is_between : ℕ → ℕ → ℕ → Bool
@@ -37,6 +33,14 @@ is_separator c = cond (is_blank c) true (cond (eqb c 44) true (cond (eqb c 58) t
 unfoldable pub line_length : List ℕ → ℕ
 line_length [] = 0
 line_length (c ∷ t) = cond (eqb c 10) 0 (suc (line_length t))
+
+-- what begins at a position of a text: so many characters that are passed over; a byte, with its number of characters;
+-- neither, by the character at a position; or a digit with nothing after it
+pub data Token : Type 0 where
+  Skip : ℕ → Token
+  Byte : ℕ → ℕ → Token
+  Wrong : ℕ → Token
+  Single : Token
 
 -- what the text t gives after a digit of the value high at position p
 unfoldable pub after_high : ℕ → ℕ → List ℕ → Token
@@ -113,16 +117,6 @@ read_from p room t = read_past_of 0 p room t
 
 abbrev pub reading_of : List ℕ → ℕ → HexReading
 reading_of text room = read_from 0 room text
-
--- the answer to a text that was read
-abbrev pub answer_for : List ℕ → End → HexAnswer
-answer_for l whole = Bytes (length l)
-answer_for l (wrong p) = NotHex p
-answer_for l single = Odd
-answer_for l full = TooLong
-
-abbrev pub hex_answer_of : HexReading → HexAnswer
-hex_answer_of r = answer_for r.bytes r.end
 
 -- the buffer o with the bytes that were read at its start
 abbrev pub written_over : List ℕ → HexReading → List ℕ

@@ -2,190 +2,137 @@
 // blanks, commas, colons and braces between the bytes; comments from # to the end of the line.
 #![tactic(auto)]
 
-ghost use Rattle.std.specs.Prelude.{◌≡◌, ℕ, ◌+◌, ◌<◌, ◌≤◌, length, drop};
+ghost use Rattle.std.specs.Prelude.{◌≡◌, ℕ, ◌+◌, ◌<◌, ◌≤◌, ◌==◌, not, length, drop, take_while, Ok};
 ghost use Rattle.io.specs.Counts.{IsPrefixLen};
-ghost use Rattle.io.specs.Digits.{hex_digit_ascii};
-ghost use Rattle.hexadecimal.specs.Hex.{digit_of, is_blank, is_separator, line_length, is_prefixed, is_digit_at, digits_of, prefixed_of, token_of};
-ghost use Rattle.hexadecimal.specs.Hex.{reading_of, hex_answer_of, written_over, pair_of, hex_of};
+ghost use Rattle.hexadecimal.specs.Hex.{is_blank, is_separator, is_prefixed, digits_of, prefixed_of, token_of};
+ghost use Rattle.hexadecimal.specs.Hex.{reading_of, written_over, pair_of, hex_of};
+ghost use Rattle.hexadecimal.specs.Told.{digit_told, digit_found, byte_told, token_told, hex_answer_of};
 ghost use Rattle.text_buffer.specs.Text.{Appends};
 
-use text_buffer::append;
+use text_buffer::TextBuffer;
 
-// What a text is: so many bytes; or not hexadecimal, at a position counted from 0; or hexadecimal
-// with a digit left over at the end; or more bytes than the buffer has room for.
+// Why a text spells no bytes: a character, at a position counted from 0, is not hexadecimal; a digit is left over at the
+// end; or there are more bytes than the buffer has room for.
 #[derive(Clone, Copy)]
-pub enum HexAnswer {
-    Bytes(usize),
+pub enum HexError {
     NotHex(usize),
     Odd,
     TooLong,
 }
 
-// What begins at a position of a text: so many characters that are passed over; a byte, with its number of characters;
-// neither, by the character at a position; or a digit with nothing after it.
+// What begins at a position of a text: so many characters that are passed over; or a byte, with its number of
+// characters.
 #[derive(Drop)]
 enum Token {
     Skip(usize),
     Byte(u8, usize),
-    Wrong(usize),
-    Single,
 }
 
 // Line ends are blanks too, so that a text can come from a file.
+#[tactic(auto, unfolding(crate::specs::Hex::is_blank))]
 pub fn is_blank(c: u8) -> bool
     ensures { result ≡ is_blank c }
 {
-    if c == b' ' {
-        return true;
-    }
-    if c == b'\t' {
-        return true;
-    }
-    if c == b'\n' {
-        return true;
-    }
-    c == b'\r'
+    matches!(c, b' ' | b'\t' | b'\n' | b'\r')
 }
 
-// The value of a digit, and 16 for any other character.
-pub fn digit(c: u8) -> u8
-    ensures { result ≡ digit_of c }
+// The value of a digit.
+#[tactic(auto, unfolding(crate::specs::Hex::digit_of))]
+pub fn digit(c: u8) -> Option<u8>
+    ensures { result ≡ digit_told c }
 {
     match c {
-        b'0'..=b'9' => c - 48,
-        b'A'..=b'F' => c - 55,
-        b'a'..=b'f' => c - 87,
-        _ => 16,
+        b'0'..=b'9' => Some(c - b'0'),
+        b'A'..=b'F' => Some(c - b'A' + 10),
+        b'a'..=b'f' => Some(c - b'a' + 10),
+        _ => None,
     }
 }
 
+#[tactic(auto, unfolding(crate::specs::Hex::is_separator))]
 fn is_separator(c: u8) -> bool
     ensures { result ≡ is_separator c }
 {
-    if is_blank(c) {
-        return true;
-    }
-    if c == b',' {
-        return true;
-    }
-    if c == b':' {
-        return true;
-    }
-    if c == b'{' {
-        return true;
-    }
-    c == b'}'
+    is_blank(c) || matches!(c, b',' | b':' | b'{' | b'}')
 }
 
 // The number of characters up to the end of the line.
 fn line_length(text: &[u8]) -> usize
-    ensures { (result ≡ line_length text.now) × (result ≤ length text.now) }
+    ensures { result ≡ length (take_while (λ c. not (c == 10)) text.now) }
 {
-    let mut n = 0;
-    while n < text.len() {
-        if text[n] == b'\n' {
-            return n;
-        }
-        n += 1;
-    }
-    n
+    text.iter().take_while(|c| **c != b'\n').count()
 }
 
-fn digits_at(text: &[u8], at: usize) -> Token
-    requires { at ≤ length text.now }
-    ensures { result ≡ digits_of at (drop at text.now) }
+fn digit_at(text: &[u8], at: usize) -> Result<u8, HexError>
+    ensures { result ≡ digit_found text.now at }
 {
-    if text.len() <= at {
-        return Token::Single;
+    match text.get(at) {
+        Some(c) => digit(*c).ok_or(HexError::NotHex(at)),
+        None => Err(HexError::Odd),
     }
-    let high = digit(text[at]);
-    if 15 < high {
-        return Token::Wrong(at);
-    }
-    let next = at + 1;
-    if text.len() <= next {
-        return Token::Single;
-    }
-    let low = digit(text[next]);
-    if 15 < low {
-        return Token::Wrong(next);
-    }
-    Token::Byte(high * 16 + low, 2)
+}
+
+// The byte that two digits spell.
+fn digits_at(text: &[u8], at: usize) -> Result<u8, HexError>
+    requires { at ≤ length text.now }
+    ensures { result ≡ byte_told (digits_of at (drop at text.now)) }
+{
+    let high = digit_at(text, at)?;
+    let low = digit_at(text, at + 1)?;
+    Ok(high * 16 + low)
 }
 
 fn is_prefixed(text: &[u8]) -> bool
     ensures { result ≡ is_prefixed text.now }
 {
-    if text.len() < 2 {
-        return false;
-    }
-    if text[0] == b'0' {
-        return text[1] == b'x';
-    }
-    false
+    text.starts_with(b"0x")
 }
 
-fn is_digit_at(text: &[u8], at: usize) -> bool
-    ensures { result ≡ is_digit_at text.now at }
-{
-    if text.len() <= at {
-        return false;
-    }
-    digit(text[at]) <= 15
-}
-
-// A byte with 0x in front.
-fn prefixed_at(text: &[u8], at: usize) -> Token
+// The byte with 0x in front.
+fn prefixed_at(text: &[u8], at: usize) -> Result<u8, HexError>
     requires { at + 2 ≤ length text.now }
-    ensures { result ≡ prefixed_of at (drop at text.now) }
+    ensures { result ≡ byte_told (prefixed_of at (drop at text.now)) }
 {
-    match digits_at(text, at + 2) {
-        Token::Skip(length) => Token::Single,
-        Token::Wrong(place) => Token::Wrong(place),
-        Token::Single => Token::Single,
-        Token::Byte(byte, length) => {
-            let end = at + 4;
-            if is_digit_at(&text[at..], 4) {
-                return Token::Wrong(end);
-            }
-            Token::Byte(byte, 4)
-        }
+    let byte = digits_at(text, at + 2)?;
+    if digit_at(text, at + 4).is_ok() {
+        return Err(HexError::NotHex(at + 4));
     }
+    Ok(byte)
 }
 
-fn token_at(text: &[u8], at: usize) -> Token
+fn token_at(text: &[u8], at: usize) -> Result<Token, HexError>
     requires { at < length text.now }
-    ensures { result ≡ token_of at (drop at text.now) }
+    ensures { result ≡ token_told (token_of at (drop at text.now)) }
 {
     let c = text[at];
+    let rest = &text[at..];
     if is_separator(c) {
-        return Token::Skip(1);
+        return Ok(Token::Skip(1));
     }
     if c == b'#' {
-        return Token::Skip(line_length(&text[at..]));
+        return Ok(Token::Skip(line_length(rest)));
     }
-    if is_prefixed(&text[at..]) {
-        return prefixed_at(text, at);
+    if is_prefixed(rest) {
+        return Ok(Token::Byte(prefixed_at(text, at)?, 4));
     }
-    digits_at(text, at)
+    Ok(Token::Byte(digits_at(text, at)?, 2))
 }
 
 // Puts the bytes that `text` spells at the start of `out`, up to the first fault if there is one.
-pub fn decode(text: &[u8], out: &mut [u8]) -> HexAnswer
+pub fn decode(text: &[u8], out: &mut [u8]) -> Result<usize, HexError>
     ensures answer { result ≡ hex_answer_of (reading_of text.now (length out.old)) }
     ensures bytes { out.new ≡ written_over out.old (reading_of text.now (length out.old)) }
-    ensures within { (n : ℕ) → result ≡ HexAnswer.Bytes n → n ≤ length out.new }
+    ensures within { (n : ℕ) → result ≡ Ok n → n ≤ length out.new }
 {
+    // Both places are counted by hand: a token tells how many characters it has, and not each is a byte.
     let mut n = 0;
     let mut i = 0;
     while i < text.len() {
-        match token_at(text, i) {
+        match token_at(text, i)? {
             Token::Skip(length) => i += length,
-            Token::Wrong(at) => return HexAnswer::NotHex(at),
-            Token::Single => return HexAnswer::Odd,
             Token::Byte(byte, length) => {
                 if out.len() <= n {
-                    return HexAnswer::TooLong;
+                    return Err(HexError::TooLong);
                 }
                 out[n] = byte;
                 n += 1;
@@ -193,43 +140,29 @@ pub fn decode(text: &[u8], out: &mut [u8]) -> HexAnswer
             }
         }
     }
-    HexAnswer::Bytes(n)
-}
-
-// The character of a digit, in lower case.
-fn character(digit: u8) -> u8
-    requires { digit < 16 }
-    ensures { result ≡ hex_digit_ascii digit }
-{
-    if digit < 10 {
-        return 48 + digit;
-    }
-    87 + digit
+    Ok(n)
 }
 
 // Appends a byte as two digits.
-pub fn append_byte(out: &mut [u8], at: usize, byte: u8) -> usize
-    ensures count { IsPrefixLen result out.new }
-    ensures text { Appends out.old at (pair_of byte) out.new result }
+pub fn append_byte(text: &mut TextBuffer, byte: u8)
+    ensures count { IsPrefixLen text.new.end text.new.bytes.now }
+    ensures text { Appends text.old.bytes.now text.old.end (pair_of byte) text.new.bytes.now text.new.end }
+    ensures lent { text.new.bytes.ghost_name ≡ text.old.bytes.ghost_name }
 {
-    let pair = [character(byte / 16), character(byte % 16)];
-    append(out, at, &pair)
+    let mut figures = [0u8; 16];
+    let k = io::hex(u64::from(byte), 2, &mut figures);
+    text.append(&figures[..k]);
 }
 
-// Appends bytes to the text that ends at `at`, two digits each and nothing between them. The answer is
-// where the text ends then.
-pub fn encode(out: &mut [u8], at: usize, bytes: &[u8]) -> usize
-    ensures count { IsPrefixLen result out.new }
-    ensures text { Appends out.old at (hex_of bytes.now) out.new result }
+// Appends bytes, two digits each and nothing between them. Where there are none, the text still ends within its buffer
+// then.
+pub fn encode(text: &mut TextBuffer, bytes: &[u8])
+    ensures count { IsPrefixLen text.new.end text.new.bytes.now }
+    ensures text { Appends text.old.bytes.now text.old.end (hex_of bytes.now) text.new.bytes.now text.new.end }
+    ensures lent { text.new.bytes.ghost_name ≡ text.old.bytes.ghost_name }
 {
-    if out.len() < at {
-        return out.len();
+    text.append(b"");
+    for byte in bytes {
+        append_byte(text, *byte);
     }
-    let mut n = at;
-    let mut i = 0;
-    while i < bytes.len() {
-        n = append_byte(out, n, bytes[i]);
-        i += 1;
-    }
-    n
 }

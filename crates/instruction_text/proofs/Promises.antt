@@ -6,6 +6,11 @@ use mathlib.Core.Path.{◌≡◌}
 use lib.ListN.{length, get_or}
 use Rattle.text_buffer.specs.Decimal.{decimal}
 use Rattle.encoding.specs.Ranges.{AllBytes}
+use Rattle.std.proofs.Common.{◌⊎◌}
+use Rattle.isa.specs.Classes.{kind_unsupported}
+use Rattle.isa.specs.Joining.Rows.{kind_of}
+use Rattle.isa.specs.declared.Kind.{Kind}
+use Rattle.isa.specs.declared.Kind.TheVariants.{Unknown, Unsupported}
 use Rattle.isa.specs.Decode.{operand_bytes, operand}
 use Rattle.phrases.specs.Numbers.{signed_text}
 use Rattle.instruction_text.specs.Names.{name_of}
@@ -49,3 +54,10 @@ plain_length = texting.plain_length
 
 pub name_length : (op : ℕ) → length (name_of op) ≤ 15
 name_length = opcodes.name_length
+
+-- ---- the kind of a row: not supported, or supported
+pub kind_low : (k : Kind) → (k ≡ Unknown) ⊎ (k ≡ Unsupported) → kind_of k ≤ kind_unsupported
+kind_low = texting.kind_low
+
+pub kind_high : (k : Kind) → (k ≡ Unknown → ⊥) → (k ≡ Unsupported → ⊥) → kind_unsupported < kind_of k
+kind_high = texting.kind_high

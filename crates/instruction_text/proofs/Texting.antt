@@ -9,13 +9,17 @@ use lib.Dec.{ltb, leb, lit<}
 use lib.ListN.{length, take, get_or, replicate, length-append, length-replicate}
 use lib.Seq.{take_all}
 use borrow.Author.Tests.{eq-eqb, ne_eqb, lt-ltb, le-ltb, le-leb, lt-leb, ltb-true, leb-true}
+use Rattle.std.proofs.Common.{Result, Ok, Err, ◌⊎◌, inl, inr}
 use Rattle.text_buffer.specs.Decimal.{decimal}
 use Rattle.text_buffer.specs.Text.{Text}
 use Rattle.encoding.specs.Ranges.{AllBytes}
 use Rattle.encoding.specs.Written.{written_at}
-use Rattle.encoding.proofs.Promises.{big_below, written_length}
+use Rattle.encoding.proofs.Promises.{big_below}
 use Rattle.logic.proofs.Promises.{no_true, cases}
 use Rattle.isa.specs.Classes.{kind_unsupported}
+use Rattle.isa.specs.Joining.Rows.{kind_of}
+use Rattle.isa.specs.declared.Kind.{Kind}
+use Rattle.isa.specs.declared.Kind.TheVariants.{Unknown, Unsupported, Ext, Variable, Plain, Pick, Goto, IfGoto, End}
 use Rattle.isa.specs.Decode.{kind_at, operand_bytes, operand, next}
 use Rattle.isa.proofs.Promises.{operands_most}
 use Rattle.text_buffer.proofs.Promises.{decimal_some, decimal_most, decimal_least, decimal_length}
@@ -23,8 +27,8 @@ use Rattle.phrases.specs.Numbers.{signed_text}
 use Rattle.phrases.proofs.Promises.{signed_length}
 use Rattle.instruction_text.specs.Names.{name_of}
 use Rattle.instruction_text.specs.Text.{aligned, operand_text, text_of, text_at, named_at, is_instruction, plain_at, written_answer, written_left}
-use Rattle.instruction_text.specs.declared.writing.TextAnswer.{TextAnswer}
-use Rattle.instruction_text.specs.declared.writing.TextAnswer.TheVariants.{Text as TextAnswer·text, NoInstruction, NoRoom}
+use Rattle.instruction_text.specs.declared.writing.Unwritten.{Unwritten}
+use Rattle.instruction_text.specs.declared.writing.Unwritten.TheVariants.{NoInstruction, NoRoom}
 use Rattle.instruction_text.proofs.Opcodes.{name_length}
 
 -- ---- an offset, in three columns
@@ -68,6 +72,22 @@ module _ (e : List ℕ) (k : ℕ) where
     pub by_length : kind_unsupported < kind_at e k → (count : ℕ) → count ≡ operand_bytes e k → ltb count (length e - k) ≡ is_instruction e k
     unfolding is_instruction
     by_length h count is = rw (lt-ltb k (length e) within, lt-ltb kind_unsupported (kind_at e k) h, is) (ltb_leb (operand_bytes e k) (length e - k) (next e k) (length e) (λ l. omega arith) (λ l. omega arith))
+
+-- ---- kinds: those that are not supported, and the others
+pub kind_low : (k : Kind) → (k ≡ Unknown) ⊎ (k ≡ Unsupported) → kind_of k ≤ kind_unsupported
+kind_low k (inl e) = rw e (omega arith)
+kind_low k (inr e) = rw e (omega arith)
+
+pub kind_high : (k : Kind) → (k ≡ Unknown → ⊥) → (k ≡ Unsupported → ⊥) → kind_unsupported < kind_of k
+kind_high Unknown u v = absurd (u refl)
+kind_high Unsupported u v = absurd (v refl)
+kind_high Ext u v = omega arith
+kind_high Variable u v = omega arith
+kind_high Plain u v = omega arith
+kind_high Pick u v = omega arith
+kind_high Goto u v = omega arith
+kind_high IfGoto u v = omega arith
+kind_high End u v = omega arith
 
 -- what it is
 pub record Instructed (e : List ℕ) (k : ℕ) : Type 0 where
@@ -179,33 +199,29 @@ plain_length e low k h =
     ]
 
 -- ---- `write_instruction`
-abbrev pub Writes : List ℕ → ℕ → List ℕ → TextAnswer → List ℕ → Type 0
-Writes e k o r o' = (r ≡ written_answer e k o) × ((o' ≡ written_left e k o) × ((n : ℕ) → r ≡ TextAnswer·text n → n ≤ length o'))
+pub record Writes (e : List ℕ) (k : ℕ) (o : List ℕ) (r : Result ℕ Unwritten) (o' : List ℕ) : Type 0 where
+  pub answer : r ≡ written_answer e k o
+  pub text : o' ≡ written_left e k o
 
 module _ (e : List ℕ) (k : ℕ) (o : List ℕ) where
-  pub writes_none : (b : Bool) → b ≡ is_instruction e k → b ≡ false → Writes e k o NoInstruction o
+  pub writes_none : is_instruction e k ≡ false → Writes e k o (Err NoInstruction) o
   unfolding written_left written_answer
-  writes_none b is f =
-      let q : is_instruction e k ≡ false = sym is ∙ f in
-      (rw q, (rw q, λ n z. absurd (let z : ◌≡◌ {A = ℕ} 0 1 = cc in omega arith)))
+  writes_none q = record { answer = rw q; text = rw q }
 
-  module _ (b : Bool) (is : b ≡ is_instruction e k) (t : b ≡ true) (line : List ℕ) (r : ℕ) (x : Text line r (text_at e k)) (room : length (text_at e k) < length line) where
+  module _ (q : is_instruction e k ≡ true) (line : List ℕ) (r : ℕ) (x : Text line r (text_at e k)) (room : length (text_at e k) < length line) where
     all_of_it : r ≡ length (text_at e k)
     all_of_it = x.all (omega (arith, x.most))
 
-    pub writes_no_room : length o < r → Writes e k o NoRoom o
+    pub writes_no_room : length o < r → Writes e k o (Err NoRoom) o
     unfolding written_left written_answer
     writes_no_room h =
-        let q : is_instruction e k ≡ true = sym is ∙ t in
         let l = lt-leb (length (text_at e k)) (length o) (omega (arith, all_of_it)) in
-        (rw (q, l), (rw (q, l), λ n z. absurd (let z : ◌≡◌ {A = ℕ} 0 1 = cc in omega arith)))
+        record { answer = rw (q, l); text = rw (q, l) }
 
-    pub writes_text : r ≤ length o → (o' : List ℕ) → o' ≡ written_at o 0 (take (r - 0) line) → Writes e k o (TextAnswer·text r) o'
+    pub writes_text : r ≤ length o → (o' : List ℕ) → o' ≡ written_at o 0 (take r line) → Writes e k o (Ok r) o'
     unfolding written_left written_answer
     writes_text h o' w =
-        let q : is_instruction e k ≡ true = sym is ∙ t in
         let a = all_of_it in
         let l = le-leb (length (text_at e k)) (length o) (omega (arith, a)) in
-        let z : r - 0 ≡ r = omega arith in
-        let m : take (r - 0) line ≡ text_at e k = ap (λ (j : ℕ). take j line) z ∙ x.same ∙ take_all r (text_at e k) (omega (arith, a)) in
-        (rw (q, l) (ap TextAnswer·text a), (rw (q, l) (w ∙ ap (written_at o 0) m), λ n y. let same : r ≡ n = cc in omega (arith, ap length w, written_length o 0 (take (r - 0) line))))
+        let m : take r line ≡ text_at e k = x.same ∙ take_all r (text_at e k) (omega (arith, a)) in
+        record { answer = rw (q, l) (ap Ok a); text = rw (q, l) (w ∙ ap (written_at o 0) m) }

@@ -1,8 +1,7 @@
 -- The names of the instructions, as the GDB manual writes them ("Bytecode Descriptions"; document 01, "The instruction
 -- table").
-use Rattle.std.specs.Prelude.{ℕ, List, [], ◌∷◌, map, get_or}
+use Rattle.std.specs.Prelude.{ℕ, List, [], ◌∷◌, get_or}
 use Prim.Native.String.{String}
-use Rattle.text_buffer.specs.Rows.{padded}
 use Rattle.text_buffer.specs.Text.{bytes_of}
 use Rattle.line_words.specs.Words.{place_from}
 
@@ -23,7 +22,3 @@ name_of op = bytes_of (get_or names op "")
 -- the opcode whose name is w, or 53
 unfoldable pub opcode_of : List ℕ → ℕ
 opcode_of w = place_from 0 names w
-
--- the names as the code keeps them
-unfoldable pub name_table : List (List ℕ)
-name_table = map (padded 15) names

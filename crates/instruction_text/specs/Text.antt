@@ -1,13 +1,13 @@
 -- The text of an instruction, as GDB's `maint agent` prints it: `  0  const8 5`.
-use Rattle.std.specs.Prelude.{ℕ, ◌-◌, Bool, cond, ◌&&◌, List, [], ◌∷◌, ◌++◌, ltb, leb, eqb, length, get_or, replicate}
+use Rattle.std.specs.Prelude.{ℕ, ◌-◌, Bool, cond, ◌&&◌, List, [], ◌∷◌, ◌++◌, ltb, leb, eqb, length, get_or, replicate, Result, Ok, Err}
 use Rattle.encoding.specs.Written.{written_at}
 use Rattle.isa.specs.Classes.{kind_unsupported}
 use Rattle.isa.specs.Decode.{kind_at, operand_bytes, operand, next}
 use Rattle.instruction_text.specs.Names.{name_of}
 use Rattle.text_buffer.specs.Decimal.{decimal}
 use Rattle.phrases.specs.Numbers.{signed_text}
-use Rattle.instruction_text.specs.declared.writing.TextAnswer.{TextAnswer}
-use Rattle.instruction_text.specs.declared.writing.TextAnswer.TheVariants.{Text, NoInstruction, NoRoom}
+use Rattle.instruction_text.specs.declared.writing.Unwritten.{Unwritten}
+use Rattle.instruction_text.specs.declared.writing.Unwritten.TheVariants.{NoInstruction, NoRoom}
 
 -- in three columns, or as many as it needs
 unfoldable pub aligned : List ℕ → List ℕ
@@ -36,13 +36,12 @@ unfoldable pub plain_at : List ℕ → ℕ → List ℕ
 plain_at e k = cond (is_instruction e k) (named_at e k) []
 
 -- ---- `write_instruction`: its answer, and the buffer o that it leaves
-unfoldable pub written_answer : List ℕ → ℕ → List ℕ → TextAnswer
-written_answer e k o = cond (is_instruction e k) (cond (leb (length (text_at e k)) (length o)) (Text (length (text_at e k))) NoRoom) NoInstruction
+unfoldable pub written_answer : List ℕ → ℕ → List ℕ → Result ℕ Unwritten
+written_answer e k o = cond (is_instruction e k) (cond (leb (length (text_at e k)) (length o)) (Ok (length (text_at e k))) (Err NoRoom)) (Err NoInstruction)
 
-abbrev pub written_by : TextAnswer → List ℕ → ℕ → List ℕ → List ℕ
-written_by (Text n) e k o = written_at o 0 (text_at e k)
-written_by NoInstruction e k o = o
-written_by NoRoom e k o = o
+abbrev pub written_by : Result ℕ Unwritten → List ℕ → ℕ → List ℕ → List ℕ
+written_by (Ok n) e k o = written_at o 0 (text_at e k)
+written_by (Err u) e k o = o
 
 unfoldable pub written_left : List ℕ → ℕ → List ℕ → List ℕ
 written_left e k o = written_by (written_answer e k o) e k o

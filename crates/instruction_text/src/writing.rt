@@ -1,44 +1,49 @@
 // An instruction, written as GDB's `maint agent` prints it.
-ghost use Rattle.std.specs.Prelude.{true, ◌≡◌, ℕ, ◌<◌, ◌≤◌, length};
+ghost use Rattle.std.specs.Prelude.{true, ◌≡◌, ◌<◌, ◌≤◌, length, IfOk};
 ghost use Rattle.text_buffer.specs.Text.{Appends};
 ghost use Rattle.text_buffer.specs.Decimal.{decimal};
 ghost use Rattle.instruction_text.specs.Text.{aligned, operand_text, named_at, text_at, is_instruction, plain_at, written_answer, written_left};
 
 use crate::names::append_name;
+use isa::Kind;
 use phrases::numbers::append_signed;
-use text_buffer::{append, append_number};
+use text_buffer::TextBuffer;
 
-// A text of so many bytes was written; there is no instruction; or the buffer has no room for the text.
+// Why no text is written: there is no instruction; or the buffer has no room for its text.
 #[derive(Clone, Copy)]
-pub enum TextAnswer {
-    Text(usize),
+pub enum Unwritten {
     NoInstruction,
     NoRoom,
 }
 
 // Appends an offset in three columns, or as many as it needs.
-fn append_offset(out: &mut [u8], at: usize, offset: u64) -> usize
-    ensures { Appends out.old at (aligned (decimal offset)) out.new result }
+fn append_offset(text: &mut TextBuffer, offset: u64)
+    ensures text { Appends text.old.bytes.now text.old.end (aligned (decimal offset)) text.new.bytes.now text.new.end }
+    ensures lent { text.new.bytes.ghost_name ≡ text.old.bytes.ghost_name }
 {
     if offset < 10 {
-        let behind = append(out, at, b"  ");
-        return append_number(out, behind, offset);
+        text.append(b"  ");
+        text.append_number(offset);
+        return;
     }
     if offset < 100 {
-        let behind = append(out, at, b" ");
-        return append_number(out, behind, offset);
+        text.append(b" ");
+        text.append_number(offset);
+        return;
     }
-    append_number(out, at, offset)
+    text.append_number(offset);
 }
 
-fn append_operand(out: &mut [u8], at: usize, count: usize, value: u64) -> usize
-    ensures { Appends out.old at (operand_text count value) out.new result }
+fn append_operand(text: &mut TextBuffer, count: usize, value: u64)
+    ensures text { Appends text.old.bytes.now text.old.end (operand_text count value) text.new.bytes.now text.new.end }
+    ensures lent { text.new.bytes.ghost_name ≡ text.old.bytes.ghost_name }
 {
     if count == 0 {
-        return append(out, at, b"");
+        text.append(b"");
+        return;
     }
-    let behind = append(out, at, b" ");
-    append_signed(out, behind, value)
+    text.append(b" ");
+    append_signed(text, value);
 }
 
 // Whether a supported instruction starts at an offset, with all its bytes.
@@ -49,60 +54,65 @@ pub fn is_instruction(code: &[u8], at: usize) -> bool
         return false;
     }
     let row = isa::look_up(code[at]);
-    if row.kind <= isa::UNSUPPORTED {
-        return false;
+    match row.kind {
+        Kind::Unknown | Kind::Unsupported => false,
+        _ => usize::from(row.operands) < code.len() - at,
     }
-    let count = row.operands as usize;
-    count < code.len() - at
 }
 
 // The instruction at an offset without the offset: `const8 5`.
-fn append_named(out: &mut [u8], at: usize, code: &[u8], offset: usize) -> usize
+fn append_named(text: &mut TextBuffer, code: &[u8], offset: usize)
     requires { is_instruction code.now offset ≡ true }
-    ensures { Appends out.old at (named_at code.now offset) out.new result }
+    ensures text { Appends text.old.bytes.now text.old.end (named_at code.now offset) text.new.bytes.now text.new.end }
+    ensures lent { text.new.bytes.ghost_name ≡ text.old.bytes.ghost_name }
 {
     let opcode = code[offset];
-    let count = isa::look_up(opcode).operands as usize;
+    let count = usize::from(isa::look_up(opcode).operands);
     let operand = isa::operand_at(code, offset, count);
-    let a = append_name(out, at, opcode);
-    append_operand(out, a, count, operand)
+    append_name(text, opcode);
+    append_operand(text, count, operand);
 }
 
 // The same for any offset: nothing where no instruction starts.
-pub fn append_plain(out: &mut [u8], at: usize, code: &[u8], offset: usize) -> usize
-    ensures { Appends out.old at (plain_at code.now offset) out.new result }
+pub fn append_plain(text: &mut TextBuffer, code: &[u8], offset: usize)
+    ensures text { Appends text.old.bytes.now text.old.end (plain_at code.now offset) text.new.bytes.now text.new.end }
+    ensures lent { text.new.bytes.ghost_name ≡ text.old.bytes.ghost_name }
 {
     if !is_instruction(code, offset) {
-        return append(out, at, b"");
+        text.append(b"");
+        return;
     }
-    append_named(out, at, code, offset)
+    append_named(text, code, offset);
 }
 
-fn append_instruction(out: &mut [u8], code: &[u8], at: usize) -> usize
+fn append_instruction(text: &mut TextBuffer, code: &[u8], at: usize)
     requires { is_instruction code.now at ≡ true }
-    ensures text { Appends out.old 0 (text_at code.now at) out.new result }
+    ensures text { Appends text.old.bytes.now text.old.end (text_at code.now at) text.new.bytes.now text.new.end }
+    ensures lent { text.new.bytes.ghost_name ≡ text.old.bytes.ghost_name }
     ensures short { length (text_at code.now at) < 64 }
 {
-    let a = append_offset(out, 0, at as u64);
-    let b = append(out, a, b"  ");
-    let c = append_named(out, b, code, at);
-    append(out, c, b"\n")
+    append_offset(text, at as u64);
+    text.append(b"  ");
+    append_named(text, code, at);
+    text.append(b"\n");
 }
 
-// Puts the text of the instruction at offset `at` at the start of `out`.
-pub fn write_instruction(code: &[u8], at: usize, out: &mut [u8]) -> TextAnswer
+// Puts the text of the instruction at offset `at` at the start of `out`, and answers its length.
+pub fn write_instruction(code: &[u8], at: usize, out: &mut [u8]) -> Result<usize, Unwritten>
     ensures answer { result ≡ written_answer code.now at out.old }
     ensures text { out.new ≡ written_left code.now at out.old }
-    ensures within { (n : ℕ) → result ≡ TextAnswer.Text n → n ≤ length out.new }
+    ensures within { IfOk result (λ n. n ≤ length out.new) }
 {
     if !is_instruction(code, at) {
-        return TextAnswer::NoInstruction;
+        return Err(Unwritten::NoInstruction);
     }
     let mut line = [0u8; 64];
-    let n = append_instruction(&mut line, code, at);
+    let mut text = TextBuffer::new(&mut line);
+    append_instruction(&mut text, code, at);
+    let n = text.end;
     if out.len() < n {
-        return TextAnswer::NoRoom;
+        return Err(Unwritten::NoRoom);
     }
-    encoding::put_bytes(out, 0, &line[0..n]);
-    TextAnswer::Text(n)
+    encoding::put_bytes(out, 0, text.written());
+    Ok(n)
 }

@@ -7,16 +7,31 @@ use mathlib.Core.Logic.{◌≢◌}
 use Prim.Native.Nat.{ℕ, ◌+◌, ◌-◌, ◌≤◌, ◌<◌}
 use lib.ListN.{length, get_or, drop}
 use lib.Dec.{eqb}
+use denote.Enum.Bare.{sameb}
 use Rattle.isa.specs.Classes.{Class, ref, class_of, row, kind, kind_unknown, kind_unsupported, kind_ext, kind_variable, kind_pick, kind_goto, kind_if_goto, kind_end}
 use Rattle.isa.specs.Decode.{class_at, kind_at, operand_bytes, next, operand, picked, needed, left, height_after}
 use Rattle.isa.specs.Starts.{starts_from, is_start}
+use Rattle.isa.specs.declared.Kind.{Kind}
+use Rattle.isa.specs.contracts.Kind.{the_type}
+use Rattle.isa.specs.Joining.Rows.{kind_of}
 use Rattle.isa.specs.Joining.Held.{held}
 use Rattle.isa.specs.Walk.{After, Walk, weigh, one}
+use Rattle.isa.proofs.Numbering as numbering
 use Rattle.isa.proofs.Table as table
 use Rattle.isa.proofs.Decoding as decoding
 use Rattle.isa.proofs.Following as following
 use Rattle.isa.proofs.Walking as walking
 use Rattle.isa.proofs.Holding as holding
+
+-- ---- kinds: no two have one number; what a test of two kinds says of their numbers
+pub one_kind : (k j : Kind) → kind_of k ≡ kind_of j → k ≡ j
+one_kind = numbering.one_kind
+
+pub kind_same : (k j : Kind) → true ≡ sameb the_type k j → kind_of k ≡ kind_of j
+kind_same = numbering.kind_same
+
+pub kind_other : (k j : Kind) → false ≡ sameb the_type k j → kind_of k ≢ kind_of j
+kind_other = numbering.kind_other
 
 -- ---- the table: operand bytes by kind, and which opcodes have a row
 pub no_operands : (op : ℕ) → kind (class_of op) ≤ kind_unsupported → get_or (row (class_of op)) 0 0 ≡ 0

@@ -6,13 +6,15 @@ use Prim.Native.Nat.{ℕ, zero, suc, ◌+◌, ◌≤◌, ◌<◌}
 use native.Mathlib.Nat.{add-zero, zero-add, suc-add, add-suc, not-suc-le-zero, le_of_suc-le-suc}
 use native.Mathlib.Omega.{arith}
 use native.Mathlib.Decide.{ℕ_discrete, dec_lt}
-use lib.ListN.{get_or}
+use Rattle.std.specs.Prelude.{map}
+use lib.ListN.{get_or, get_or-map}
 use lib.Dec.{T, eqb, leb, ltb, eqb→eq, leb→le, ltb→lt}
 use borrow.Author.Tests.{eq-eqb, ne_eqb}
 use Rattle.logic.proofs.Promises.{and_left, and_right}
 use Rattle.isa.specs.Classes.{Class, binary, trace, tracenz, unary, ref, trace_quick, ext, zero_ext_of, setv, if_goto, goto, constant, reg, getv, tracev, end, dup, pop, swap, pick, rot, unsupported, unknown, row, kind, opcodes, among, class_of, kind_unknown, kind_unsupported, kind_ext, kind_variable, kind_goto, kind_if_goto, kind_end, kind_pick}
 use Rattle.logic.specs.Tests.{member}
-use Rattle.isa.specs.Joining.Rows.{line, rows_from, table}
+use Rattle.isa.specs.Joining.Rows.{line, rows_from, table, line_of, IsRow}
+use Rattle.isa.specs.declared.Row.{Row}
 
 -- ---- what one test shows of every opcode
 abbrev pub every_class : (Class → Bool) → List (List ℕ × Class) → Bool
@@ -108,14 +110,6 @@ pub operands_most : (op : ℕ) → get_or (row (class_of op)) 0 0 ≤ 8
 unfolding opcodes
 operands_most op = leb→le _ _ (rule (λ c. leb (get_or (row c) 0 0) 8) tt op)
 
-pub needed_most : (op : ℕ) → get_or (row (class_of op)) 1 0 ≤ 3
-unfolding opcodes
-needed_most op = leb→le _ _ (rule (λ c. leb (get_or (row c) 1 0) 3) tt op)
-
-pub left_most : (op : ℕ) → get_or (row (class_of op)) 2 0 ≤ 3
-unfolding opcodes
-left_most op = leb→le _ _ (rule (λ c. leb (get_or (row c) 2 0) 3) tt op)
-
 -- the byte count inside a class, and 0 where it has none
 abbrev inside : Class → ℕ
 inside binary = 0
@@ -148,15 +142,27 @@ unfolding opcodes
 ref_most op n p = rw p at (leb→le (inside (class_of op)) 8 (rule (λ c. leb (inside c) 8) tt op))
 
 -- ---- the rows by opcode
-rows_at : (n i op : ℕ) → op < n → get_or (rows_from i n) op [] ≡ line (class_of (i + op))
+rows_at : (d : List ℕ) (n i op : ℕ) → op < n → get_or (rows_from i n) op d ≡ line (class_of (i + op))
 unfolding rows_from
-rows_at zero i op h = absurd (not-suc-le-zero h)
-rows_at (suc n) i zero h = ap (λ (x : ℕ). line (class_of x)) (sym (add-zero i))
-rows_at (suc n) i (suc op) h = rows_at n (suc i) op (le_of_suc-le-suc h) ∙ ap (λ (x : ℕ). line (class_of x)) (suc-add i op ∙ sym (add-suc i op))
+rows_at d zero i op h = absurd (not-suc-le-zero h)
+rows_at d (suc n) i zero h = ap (λ (x : ℕ). line (class_of x)) (sym (add-zero i))
+rows_at d (suc n) i (suc op) h = rows_at d n (suc i) op (le_of_suc-le-suc h) ∙ ap (λ (x : ℕ). line (class_of x)) (suc-add i op ∙ sym (add-suc i op))
 
-pub row_at : (op : ℕ) → op < 53 → get_or table op [] ≡ line (class_of op)
+row_at : (d : List ℕ) (op : ℕ) → op < 53 → get_or table op d ≡ line (class_of op)
 unfolding table
-row_at op h = rows_at 53 0 op h ∙ ap (λ (x : ℕ). line (class_of x)) (zero-add op)
+row_at d op h = rows_at d 53 0 op h ∙ ap (λ (x : ℕ). line (class_of x)) (zero-add op)
+
+-- the code's rows, of which the table is made
+pub is_row : (rs : List Row) (op : ℕ) (d : Row) → map line_of rs ≡ table → op < 53 → IsRow op (get_or rs op d)
+is_row rs op d h l =
+    let q : line_of (get_or rs op d) ≡ line (class_of op)
+    = sym (get_or-map line_of rs op d) ∙ ap (λ (t : List (List ℕ)). get_or t op (line_of d)) h ∙ row_at (line_of d) op l in
+    record {
+      operands_is = ap (λ (t : List ℕ). get_or t 0 0) q;
+      needed_is = ap (λ (t : List ℕ). get_or t 1 0) q;
+      left_is = ap (λ (t : List ℕ). get_or t 2 0) q;
+      kind_is = ap (λ (t : List ℕ). get_or t 3 0) q;
+    }
 
 -- ---- past the table every opcode is unknown
 abbrev all_below : ℕ → List ℕ → Bool

@@ -43,5 +43,8 @@ abbrev pub jumps : List ℕ → ℕ → Bool
 jumps e k = is_jump (kind_at e k)
 
 -- the next start may follow: every instruction but goto and end
+abbrev pub goes_on : ℕ → Bool
+goes_on kind = not (eqb kind kind_goto) && not (eqb kind kind_end)
+
 abbrev pub continues : List ℕ → ℕ → Bool
-continues e k = not (eqb (kind_at e k) kind_goto) && not (eqb (kind_at e k) kind_end)
+continues e k = goes_on (kind_at e k)

@@ -1,4 +1,4 @@
-// The opcodes of document 01's table, by GDB's names.
+// The opcodes of document 01's table, by GDB's names. They are numbers, as the bytes of an expression are.
 pub const ADD: u8 = 0x02;
 
 pub const SUB: u8 = 0x03;

@@ -15,6 +15,7 @@
 //   s BYTES LENGTH PLACE                  a step of the walker
 #![tactic(auto)]
 
+mod calls;
 mod fields;
 mod reading;
 mod text;
@@ -22,75 +23,73 @@ mod words;
 
 ghost use Rattle.io.specs.Counts.{IsPrefixLen};
 
-use fields::{bytes_at, has_fields, number_at};
-use frames::Put;
+use calls::{Call, Kind};
+use lines::{LineError, Lines};
+use memory::{Span, Target};
 use reading::{append_division, append_frames};
 use std::io::Error;
 use text::{append_broken, append_bytes, append_refused, append_search, append_written};
-use text_buffer::append;
+use text_buffer::TextBuffer;
 use words::append_word;
 
-fn append_lent(out: &mut [u8], refusal: u8, bytes: &[u8]) -> usize
-    ensures { IsPrefixLen result out.new }
+fn append_read(text: &mut TextBuffer, call: Call, target: Target)
+    ensures { IsPrefixLen text.new.end text.new.bytes.now }
 {
-    if refusal != 0 {
-        return append_refused(out, refusal);
+    let address = call.number(5);
+    let read = match call.kind {
+        Kind::Rest => memory::spans_refusal(target).map(|memory| memory.rest(address)),
+        _ => memory::fetch(target, address, call.number(6)),
+    };
+    match read {
+        Ok(bytes) => append_bytes(text, bytes),
+        Err(reason) => append_refused(text, reason),
     }
-    append_bytes(out, 0, bytes)
 }
 
-fn append_read<'a>(out: &mut [u8], kind: u8, line: &[u8], image: &'a [u8], work: &'a [u8]) -> usize
-    ensures { IsPrefixLen result out.new }
-{
-    let f = number_at(line, 1);
-    let g = number_at(line, 3);
-    let a = number_at(line, 5);
-    if kind == b'r' {
-        let refusal = memory::spans_refusal(f, image, g, work);
-        if refusal != 0 {
-            return append_refused(out, refusal);
-        }
-        return append_bytes(out, 0, memory::rest(f, image, g, work, a));
-    }
-    let size = number_at(line, 6);
-    let refusal = memory::fetch_refusal(f, image, g, work, a, size);
-    append_lent(out, refusal, memory::fetch(f, image, g, work, a, size))
-}
-
-fn append_spans(out: &mut [u8], kind: u8, line: &[u8]) -> usize
-    ensures { IsPrefixLen result out.new }
+fn append_spans(text: &mut TextBuffer, call: Call)
+    ensures { IsPrefixLen text.new.end text.new.bytes.now }
 {
     let mut image = [0u8; 4096];
     let mut work = [0u8; 4096];
-    let n = bytes_at(line, 2, &mut image);
-    let m = bytes_at(line, 4, &mut work);
-    append_read(out, kind, line, &image[0..n], &work[0..m])
+    let n = call.bytes(2, &mut image);
+    let m = call.bytes(4, &mut work);
+    let target = Target {
+        image: Span {
+            first: call.number(1),
+            bytes: &image[..n],
+        },
+        work: Span {
+            first: call.number(3),
+            bytes: &work[..m],
+        },
+    };
+    append_read(text, call, target);
 }
 
-fn append_zero(out: &mut [u8], line: &[u8]) -> usize
-    ensures { IsPrefixLen result out.new }
+fn append_zero(text: &mut TextBuffer, call: Call)
+    ensures { IsPrefixLen text.new.end text.new.bytes.now }
 {
     let mut bytes = [0u8; 4096];
-    let n = bytes_at(line, 1, &mut bytes);
-    let size = number_at(line, 2) as usize;
-    append_search(out, memory::find_zero(&bytes[0..n], size))
+    let n = call.bytes(1, &mut bytes);
+    let size = call.number(2) as usize;
+    append_search(text, memory::find_zero(&bytes[..n], size));
 }
 
-fn write_memory(part: &mut [u8], line: &[u8]) -> Put {
+fn write_memory(part: &mut [u8], call: Call) -> Option<usize> {
     let mut bytes = [0u8; 4096];
-    let n = bytes_at(line, 3, &mut bytes);
-    frames::write_memory(part, number_at(line, 2), &bytes[0..n])
+    let n = call.bytes(3, &mut bytes);
+    frames::write_memory(part, call.number(2), &bytes[..n])
 }
 
-// `fields_of` has bounded the numbers; the remainders are for the proof that they fit.
-fn write_variable(part: &mut [u8], line: &[u8]) -> Put {
-    let number = number_at(line, 2) % 0x1_0000_0000;
-    frames::write_variable(part, number as u32, number_at(line, 3))
+// The fields' kinds have bounded the numbers; the remainders are for the proof that they fit.
+fn write_variable(part: &mut [u8], call: Call) -> Option<usize> {
+    let number = call.number(2) % 0x1_0000_0000;
+    frames::write_variable(part, number as u32, call.number(3))
 }
 
-fn write_trailer(part: &mut [u8], line: &[u8]) -> Put {
-    let tracepoint = number_at(line, 2) % 0x1_0000;
-    let length = number_at(line, 3) % 0x1_0000_0000;
+fn write_trailer(part: &mut [u8], call: Call) -> Option<usize> {
+    let tracepoint = call.number(2) % 0x1_0000;
+    let length = call.number(3) % 0x1_0000_0000;
     frames::trailer::write_trailer(
         part,
         frames::trailer::tag_of(tracepoint as u16),
@@ -98,110 +97,79 @@ fn write_trailer(part: &mut [u8], line: &[u8]) -> Put {
     )
 }
 
-fn write_record(part: &mut [u8], kind: u8, line: &[u8]) -> Put {
-    match kind {
-        b'm' => write_memory(part, line),
-        b'v' => write_variable(part, line),
-        _ => write_trailer(part, line),
+fn write_record(part: &mut [u8], call: Call) -> Option<usize> {
+    match call.kind {
+        Kind::Memory => write_memory(part, call),
+        Kind::Variable => write_variable(part, call),
+        _ => write_trailer(part, call),
     }
 }
 
-fn append_record(out: &mut [u8], kind: u8, line: &[u8], part: &mut [u8]) -> usize
-    ensures { IsPrefixLen result out.new }
+fn append_record(text: &mut TextBuffer, call: Call, part: &mut [u8])
+    ensures { IsPrefixLen text.new.end text.new.bytes.now }
 {
-    let written = write_record(part, kind, line);
-    append_written(out, written, part)
+    let written = write_record(part, call);
+    append_written(text, written, part);
 }
 
 // Each byte of the free part is a5 before, so that a byte too many shows. A larger part would have
 // an answer that is too long for `print_answer`.
-fn append_room(out: &mut [u8], kind: u8, line: &[u8]) -> usize
-    ensures { IsPrefixLen result out.new }
+fn append_room(text: &mut TextBuffer, call: Call)
+    ensures { IsPrefixLen text.new.end text.new.bytes.now }
 {
     let mut part = [0xa5u8; 1024];
-    let room = number_at(line, 1) as usize;
+    let room = call.number(1) as usize;
     if 1024 < room {
-        return append_broken(out);
+        append_broken(text);
+        return;
     }
-    append_record(out, kind, line, &mut part[0..room])
+    append_record(text, call, &mut part[..room]);
 }
 
-fn append_answer(out: &mut [u8], kind: u8, line: &[u8]) -> usize
-    ensures { IsPrefixLen result out.new }
+fn append_answer(text: &mut TextBuffer, call: Call)
+    ensures { IsPrefixLen text.new.end text.new.bytes.now }
 {
-    match kind {
-        b'w' => append_word(
-            out,
-            number_at(line, 1),
-            number_at(line, 2),
-            number_at(line, 3),
-        ),
-        b'f' | b'r' => append_spans(out, kind, line),
-        b'z' => append_zero(out, line),
-        b'd' => append_division(out, line),
-        b'g' | b'c' | b'l' | b's' => append_frames(out, kind, line),
-        _ => append_room(out, kind, line),
+    match call.kind {
+        Kind::Word => append_word(text, call.number(1), call.number(2), call.number(3)),
+        Kind::Fetch | Kind::Rest => append_spans(text, call),
+        Kind::Zero => append_zero(text, call),
+        Kind::Memory | Kind::Variable | Kind::Trailer => append_room(text, call),
+        Kind::Division => append_division(text, call),
+        Kind::Read | Kind::Count | Kind::Locate | Kind::Step => append_frames(text, call),
     }
 }
 
-// The fields of a line after its kind, as `has_fields` takes them. No field has the kind 0.
-fn fields_of(kind: u8) -> u64 {
-    match kind {
-        b'w' => 0x888,
-        b'f' => 0x88_b8b8,
-        b'r' => 0x8_b8b8,
-        b'z' => 0x8b,
-        b'm' => 0xb88,
-        b'v' => 0x848,
-        b't' => 0x428,
-        b'd' => 0xb,
-        b'g' => 0x8_888b,
-        b'c' | b'l' => 0x888b,
-        b's' => 0x88b,
-        _ => 0x10,
-    }
-}
-
-fn append_line(out: &mut [u8], line: &[u8]) -> usize
-    ensures { IsPrefixLen result out.new }
+fn append_line(text: &mut TextBuffer, line: &[u8])
+    ensures { IsPrefixLen text.new.end text.new.bytes.now }
 {
-    if line.len() == 0 {
-        return append_broken(out);
+    match Call::of(line) {
+        Some(call) => append_answer(text, call),
+        None => append_broken(text),
     }
-    let kind = line[0];
-    if has_fields(&line[1..], fields_of(kind)) {
-        return append_answer(out, kind, line);
-    }
-    append_broken(out)
 }
 
 fn print_answer(rt: &impl Print, line: &[u8]) -> Result<(), Error> {
-    let mut out = [0u8; 4096];
-    let n = append_line(&mut out, line);
-    let end = append(&mut out, n, b"\n");
-    rt.write_all(&out[..end])
+    let mut room = [0u8; 4096];
+    let mut text = TextBuffer::new(&mut room);
+    append_line(&mut text, line);
+    text.append(b"\n");
+    rt.write_all(text.written())
 }
 
-// The answer to a line of `len` characters. The buffer holds them all unless it is too short; then
-// the line is broken, as an empty one is.
-fn answer(rt: &impl Print, text: &[u8], len: usize) -> Result<(), Error> {
-    if text.len() < len {
-        return print_answer(rt, &text[0..0]);
-    }
-    print_answer(rt, &text[0..len])
-}
-
+// A line that is too long is broken, as an empty one is. Where a read fails in a line, what had come of it is answered,
+// and the next line is asked for.
 // The loop has a last turn for the proof that it ends; no input comes to it.
 fn main(rt: HostRuntime) -> Result<(), Error> {
     let mut input = io::large_buffer();
     let mut text = [0u8; 8448];
-    let mut line = lines::start(&rt);
+    let mut lines = Lines::new(rt.stdin(), &mut input);
     for _ in 0..u64::MAX {
-        line = lines::next(&mut input, &mut text, line);
-        if !line.is_line {
-            break;
+        match lines.next(&mut text) {
+            Ok(Some(line)) => print_answer(&rt, line)?,
+            Ok(None) | Err(LineError::Failed(_, Some(0))) => break,
+            Err(LineError::Failed(_, Some(n))) => print_answer(&rt, text.get(..n).unwrap_or(&[]))?,
+            Err(LineError::TooLong | LineError::Failed(_, None)) => print_answer(&rt, b"")?,
         }
-        answer(&rt, &text, line.len)?;
     }
     Ok(())
 }

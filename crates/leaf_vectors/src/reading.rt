@@ -1,222 +1,216 @@
 // The lines that the frame reader answers.
 ghost use Rattle.io.specs.Counts.{IsPrefixLen};
 
-use crate::fields::{bytes_at, number_at};
+use crate::calls::{Call, Kind};
 use crate::text::{append_broken, append_bytes, append_number};
-use frames::{Put, Tag};
-use reader::{CountAnswer, FrameAnswer, RecordAnswer};
+use frames::Tag;
+use reader::{Counted, Found, Frame, ReadRecord};
 use refusals::Refusal;
-use text_buffer::append;
+use text_buffer::TextBuffer;
 
 // ---- the text of an answer
 // A space and a number.
-fn append_next(out: &mut [u8], at: usize, number: u64) -> usize
-    ensures { IsPrefixLen result out.new }
+fn append_next(text: &mut TextBuffer, number: u64)
+    ensures { IsPrefixLen text.new.end text.new.bytes.now }
 {
-    let a = append(out, at, b" ");
-    append_number(out, a, number)
+    text.append(b" ");
+    append_number(text, number);
 }
 
-fn append_refusal(out: &mut [u8], refusal: Refusal) -> usize
-    ensures { IsPrefixLen result out.new }
+fn append_refusal(text: &mut TextBuffer, refusal: Refusal)
+    ensures { IsPrefixLen text.new.end text.new.bytes.now }
 {
-    let a = append(out, 0, b"refused");
-    let b = append_next(out, a, encoding::wide(refusal.number));
-    append_next(out, b, refusal.offset as u64)
+    text.append(b"refused");
+    append_next(text, u64::from(refusal.reason.number()));
+    append_next(text, refusal.offset as u64);
 }
 
 // A word, what the trailer says, and two numbers.
-fn append_three(out: &mut [u8], word: &[u8], tag: Tag, a: u64, b: u64) -> usize
-    ensures { IsPrefixLen result out.new }
+fn append_three(text: &mut TextBuffer, word: &[u8], tag: Tag, a: u64, b: u64)
+    ensures { IsPrefixLen text.new.end text.new.bytes.now }
 {
-    let n = append(out, 0, word);
-    let m = append_next(out, n, tag.tracepoint as u64);
-    let k = append_next(out, m, a);
-    append_next(out, k, b)
+    text.append(word);
+    append_next(text, u64::from(tag.tracepoint));
+    append_next(text, a);
+    append_next(text, b);
 }
 
-fn append_frame(out: &mut [u8], answer: FrameAnswer) -> usize
-    ensures { IsPrefixLen result out.new }
+fn append_frame(text: &mut TextBuffer, answer: Result<Frame, Refusal>)
+    ensures { IsPrefixLen text.new.end text.new.bytes.now }
 {
     match answer {
-        FrameAnswer::Frame(tag, start, length) => append_three(
-            out,
-            b"frame",
-            tag,
-            start as u64,
-            length as u64,
-        ),
-        FrameAnswer::Refused(refusal) => append_refusal(out, refusal),
+        Ok(frame) => {
+            append_three(
+                text,
+                b"frame",
+                frame.tag,
+                frame.start as u64,
+                frame.length as u64,
+            );
+        }
+        Err(refusal) => append_refusal(text, refusal),
     }
 }
 
-fn append_count(out: &mut [u8], answer: CountAnswer) -> usize
-    ensures { IsPrefixLen result out.new }
+fn append_count(text: &mut TextBuffer, answer: Result<Counted, Refusal>)
+    ensures { IsPrefixLen text.new.end text.new.bytes.now }
 {
     match answer {
-        CountAnswer::Records(tag, start, length, records) => {
-            let n = append_three(out, b"records", tag, start as u64, length as u64);
-            append_next(out, n, records as u64)
+        Ok(counted) => {
+            let frame = counted.frame;
+            append_three(
+                text,
+                b"records",
+                frame.tag,
+                frame.start as u64,
+                frame.length as u64,
+            );
+            append_next(text, counted.records as u64);
         }
-        CountAnswer::Refused(refusal) => append_refusal(out, refusal),
+        Err(refusal) => append_refusal(text, refusal),
     }
 }
 
-fn append_reading(out: &mut [u8], answer: RecordAnswer) -> usize
-    ensures { IsPrefixLen result out.new }
+fn append_reading(text: &mut TextBuffer, answer: Result<ReadRecord, Refusal>)
+    ensures { IsPrefixLen text.new.end text.new.bytes.now }
 {
     match answer {
-        RecordAnswer::Memory(tag, address, length, place) => {
-            let n = append_three(out, b"memory", tag, address, length as u64);
-            append_next(out, n, place as u64)
-        }
-        RecordAnswer::Variable(tag, number, value) => append_three(
-            out,
-            b"variable",
-            tag,
-            number,
-            value,
-        ),
-        RecordAnswer::Refused(refusal) => append_refusal(out, refusal),
+        Ok(read) => match read.record {
+            Found::Memory {
+                address,
+                length,
+                place,
+            } => {
+                append_three(text, b"memory", read.tag, address, length as u64);
+                append_next(text, place as u64);
+            }
+            Found::Variable { number, value } => {
+                append_three(text, b"variable", read.tag, number, value);
+            }
+        },
+        Err(refusal) => append_refusal(text, refusal),
     }
 }
 
 // ---- questions to a buffer
-fn append_asked(out: &mut [u8], kind: u8, line: &[u8], buffer: &[u8]) -> usize
-    ensures { IsPrefixLen result out.new }
+fn append_asked(text: &mut TextBuffer, call: Call, buffer: &[u8])
+    ensures { IsPrefixLen text.new.end text.new.bytes.now }
 {
-    let used = number_at(line, 3) as usize;
-    let frame = number_at(line, 4);
-    match kind {
-        b's' => append_frame(out, reader::walk(buffer, used)),
-        b'l' => append_frame(out, reader::locate(buffer, used, frame)),
-        b'c' => append_count(out, reader::count_records(buffer, used, frame)),
-        _ => append_reading(out, reader::read(buffer, used, frame, number_at(line, 5))),
+    let used = call.number(3) as usize;
+    let frame = call.number(4);
+    match call.kind {
+        Kind::Step => append_frame(text, reader::walk(buffer, used)),
+        Kind::Locate => append_frame(text, reader::locate(buffer, used, frame)),
+        Kind::Count => append_count(text, reader::count_records(buffer, used, frame)),
+        _ => append_reading(text, reader::read(buffer, used, frame, call.number(5))),
     }
 }
 
 // The `n` bytes at the front, over and over to the end.
 fn repeat(bytes: &mut [u8], n: usize) {
-    let mut i = n;
-    while i < bytes.len() {
+    for i in n..bytes.len() {
         bytes[i] = bytes[i - n];
-        i += 1;
     }
 }
 
-fn append_repeated(out: &mut [u8], kind: u8, line: &[u8], buffer: &mut [u8], n: usize) -> usize
-    ensures { IsPrefixLen result out.new }
+fn append_repeated(text: &mut TextBuffer, call: Call, buffer: &mut [u8], n: usize)
+    ensures { IsPrefixLen text.new.end text.new.bytes.now }
 {
     repeat(buffer, n);
-    append_asked(out, kind, line, buffer)
+    append_asked(text, call, buffer);
 }
 
 // The buffer may be longer than the longest that the reader takes.
-pub fn append_frames(out: &mut [u8], kind: u8, line: &[u8]) -> usize
-    ensures { IsPrefixLen result out.new }
+pub fn append_frames(text: &mut TextBuffer, call: Call)
+    ensures { IsPrefixLen text.new.end text.new.bytes.now }
 {
     let mut buffer = [0u8; 65600];
-    let n = bytes_at(line, 1, &mut buffer);
-    let length = number_at(line, 2) as usize;
+    let n = call.bytes(1, &mut buffer);
+    let length = call.number(2) as usize;
     if 65600 < length {
-        return append_broken(out);
+        append_broken(text);
+        return;
     }
-    append_repeated(out, kind, line, &mut buffer[0..length], n)
+    append_repeated(text, call, &mut buffer[..length], n);
 }
 
 // ---- all records of one frame
 // The bytes of a memory record; none where the buffer has them not.
 fn recorded<'a>(buffer: &'a [u8], place: usize, length: usize) -> &'a [u8] {
-    if buffer.len() < place {
-        return &buffer[0..0];
+    if buffer.len() < place || buffer.len() - place < length {
+        return &buffer[..0];
     }
-    if buffer.len() - place < length {
-        return &buffer[0..0];
-    }
-    let end = place + length;
-    &buffer[place..end]
+    &buffer[place..place + length]
 }
 
-fn append_record(out: &mut [u8], at: usize, buffer: &[u8], answer: RecordAnswer) -> usize
-    ensures { IsPrefixLen result out.new }
+fn append_record(text: &mut TextBuffer, buffer: &[u8], index: u64)
+    ensures { IsPrefixLen text.new.end text.new.bytes.now }
 {
-    match answer {
-        RecordAnswer::Memory(tag, address, length, place) => {
-            let a = append(out, at, b"m");
-            let b = append_next(out, a, address);
-            let c = append(out, b, b" ");
-            append_bytes(out, c, recorded(buffer, place, length))
+    let Ok(read) = reader::read(buffer, buffer.len(), 0, index) else {
+        text.append(b"?");
+        return;
+    };
+    match read.record {
+        Found::Memory {
+            address,
+            length,
+            place,
+        } => {
+            text.append(b"m");
+            append_next(text, address);
+            text.append(b" ");
+            append_bytes(text, recorded(buffer, place, length));
         }
-        RecordAnswer::Variable(tag, number, value) => {
-            let a = append(out, at, b"v");
-            let b = append_next(out, a, number);
-            append_next(out, b, value)
+        Found::Variable { number, value } => {
+            text.append(b"v");
+            append_next(text, number);
+            append_next(text, value);
         }
-        RecordAnswer::Refused(refusal) => append(out, at, b"?"),
     }
 }
 
-// What stands before record number `i`.
-fn append_mark(out: &mut [u8], at: usize, i: usize) -> usize
-    ensures { IsPrefixLen result out.new }
+fn append_records(text: &mut TextBuffer, buffer: &[u8], count: u64)
+    ensures { IsPrefixLen text.new.end text.new.bytes.now }
 {
-    if i == 0 {
-        return append(out, at, b"");
+    text.append(b"");
+    for index in 0..count {
+        if index != 0 {
+            text.append(b";");
+        }
+        append_record(text, buffer, index);
     }
-    append(out, at, b";")
 }
 
-fn append_records(out: &mut [u8], buffer: &[u8], count: usize) -> usize
-    ensures { IsPrefixLen result out.new }
-{
-    let mut n = append(out, 0, b"");
-    let mut i = 0;
-    while i < count {
-        n = append_mark(out, n, i);
-        n = append_record(
-            out,
-            n,
-            buffer,
-            reader::read(buffer, buffer.len(), 0, i as u64),
-        );
-        i += 1;
-    }
-    n
-}
-
-fn append_divided(out: &mut [u8], buffer: &[u8]) -> usize
-    ensures { IsPrefixLen result out.new }
+fn append_divided(text: &mut TextBuffer, buffer: &[u8])
+    ensures { IsPrefixLen text.new.end text.new.bytes.now }
 {
     match reader::count_records(buffer, buffer.len(), 0) {
-        CountAnswer::Refused(refusal) => append_refusal(out, refusal),
-        CountAnswer::Records(tag, start, length, records) => {
-            if records == 0 {
-                return append(out, 0, b"none");
-            }
-            append_records(out, buffer, records)
-        }
+        Ok(counted) if counted.records == 0 => text.append(b"none"),
+        Ok(counted) => append_records(text, buffer, counted.records as u64),
+        Err(refusal) => append_refusal(text, refusal),
     }
 }
 
 // A trailer behind the `n` bytes makes a frame of them.
-fn append_closed(out: &mut [u8], frame: &mut [u8], n: u32) -> usize
-    ensures { IsPrefixLen result out.new }
+fn append_closed(text: &mut TextBuffer, frame: &mut [u8], n: u32)
+    ensures { IsPrefixLen text.new.end text.new.bytes.now }
 {
     let tag = frames::trailer::tag_of(7);
     match frames::trailer::append_trailer(frame, n as usize, tag, n) {
-        Put::Full => append_broken(out),
-        Put::Bytes(written) => append_divided(out, frame),
+        Some(written) => append_divided(text, frame),
+        None => append_broken(text),
     }
 }
 
-pub fn append_division(out: &mut [u8], line: &[u8]) -> usize
-    ensures { IsPrefixLen result out.new }
+pub fn append_division(text: &mut TextBuffer, call: Call)
+    ensures { IsPrefixLen text.new.end text.new.bytes.now }
 {
     let mut buffer = [0u8; 4104];
-    let n = bytes_at(line, 1, &mut buffer);
+    let n = call.bytes(1, &mut buffer);
     if 4096 < n {
-        return append_broken(out);
+        append_broken(text);
+        return;
     }
     let end = n + frames::trailer::TRAILER_SIZE;
-    append_closed(out, &mut buffer[0..end], n as u32)
+    append_closed(text, &mut buffer[..end], n as u32);
 }

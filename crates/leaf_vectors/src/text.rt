@@ -1,89 +1,87 @@
 // The text of an answer, appended to a buffer as `text_buffer` does.
 ghost use Rattle.io.specs.Counts.{IsPrefixLen};
 
-use frames::Put;
 use memory::Search;
-use text_buffer::append;
+use refusals::Reason;
+use text_buffer::TextBuffer;
 
-fn append_digits(out: &mut [u8], at: usize, number: u64, width: usize) -> usize
-    ensures { IsPrefixLen result out.new }
+fn append_digits(text: &mut TextBuffer, number: u64, width: usize)
+    ensures { IsPrefixLen text.new.end text.new.bytes.now }
 {
     let mut figures = [0u8; 16];
     let k = io::hex(number, width, &mut figures);
-    append(out, at, &figures[..k])
+    text.append(&figures[..k]);
 }
 
-pub fn append_number(out: &mut [u8], at: usize, number: u64) -> usize
-    ensures { IsPrefixLen result out.new }
+pub fn append_number(text: &mut TextBuffer, number: u64)
+    ensures { IsPrefixLen text.new.end text.new.bytes.now }
 {
-    append_digits(out, at, number, 1)
+    append_digits(text, number, 1);
 }
 
-fn append_pairs(out: &mut [u8], at: usize, bytes: &[u8]) -> usize
-    ensures { IsPrefixLen result out.new }
+fn append_pairs(text: &mut TextBuffer, bytes: &[u8])
+    ensures { IsPrefixLen text.new.end text.new.bytes.now }
 {
-    let mut n = append(out, at, b"");
-    let mut i = 0;
-    while i < bytes.len() {
-        n = append_digits(out, n, encoding::wide(bytes[i]), 2);
-        i += 1;
+    text.append(b"");
+    for byte in bytes {
+        append_digits(text, u64::from(*byte), 2);
     }
-    n
 }
 
-pub fn append_bytes(out: &mut [u8], at: usize, bytes: &[u8]) -> usize
-    ensures { IsPrefixLen result out.new }
+pub fn append_bytes(text: &mut TextBuffer, bytes: &[u8])
+    ensures { IsPrefixLen text.new.end text.new.bytes.now }
 {
-    if bytes.len() == 0 {
-        return append(out, at, b"-");
+    if bytes.is_empty() {
+        text.append(b"-");
+        return;
     }
-    append_pairs(out, at, bytes)
+    append_pairs(text, bytes);
 }
 
-pub fn append_refused(out: &mut [u8], refusal: u8) -> usize
-    ensures { IsPrefixLen result out.new }
+pub fn append_refused(text: &mut TextBuffer, reason: Reason)
+    ensures { IsPrefixLen text.new.end text.new.bytes.now }
 {
-    let a = append(out, 0, b"refused ");
-    append_number(out, a, encoding::wide(refusal))
+    text.append(b"refused ");
+    append_number(text, u64::from(reason.number()));
 }
 
-pub fn append_broken(out: &mut [u8]) -> usize
-    ensures { IsPrefixLen result out.new }
+pub fn append_broken(text: &mut TextBuffer)
+    ensures { IsPrefixLen text.new.end text.new.bytes.now }
 {
-    append(out, 0, b"error: not a line of this form")
+    text.append(b"error: not a line of this form");
 }
 
-fn append_count(out: &mut [u8], word: &[u8], count: usize) -> usize
-    ensures { IsPrefixLen result out.new }
+fn append_count(text: &mut TextBuffer, word: &[u8], count: usize)
+    ensures { IsPrefixLen text.new.end text.new.bytes.now }
 {
-    let a = append(out, 0, word);
-    append_number(out, a, count as u64)
+    text.append(word);
+    append_number(text, count as u64);
 }
 
-pub fn append_search(out: &mut [u8], search: Search) -> usize
-    ensures { IsPrefixLen result out.new }
+pub fn append_search(text: &mut TextBuffer, search: Search)
+    ensures { IsPrefixLen text.new.end text.new.bytes.now }
 {
     match search {
-        Search::Found(n) => append_count(out, b"zero ", n),
-        Search::Reached(n) => append_count(out, b"size ", n),
-        Search::Ended(n) => append_count(out, b"end ", n),
+        Search::Found(n) => append_count(text, b"zero ", n),
+        Search::Reached(n) => append_count(text, b"size ", n),
+        Search::Ended(n) => append_count(text, b"end ", n),
     }
 }
 
-fn append_outcome(out: &mut [u8], written: Put) -> usize
-    ensures { IsPrefixLen result out.new }
+fn append_outcome(text: &mut TextBuffer, written: Option<usize>)
+    ensures { IsPrefixLen text.new.end text.new.bytes.now }
 {
     match written {
-        Put::Bytes(n) => append_number(out, 0, n as u64),
-        Put::Full => append(out, 0, b"full"),
+        Some(n) => append_number(text, n as u64),
+        None => text.append(b"full"),
     }
 }
 
 // What a writer has answered, and the whole part that it was lent.
-pub fn append_written(out: &mut [u8], written: Put, part: &[u8]) -> usize
-    ensures { IsPrefixLen result out.new }
+pub fn append_written(text: &mut TextBuffer, written: Option<usize>, part: &[u8])
+    ensures { IsPrefixLen text.new.end text.new.bytes.now }
 {
-    let a = append_outcome(out, written);
-    let b = append(out, a, b" ");
-    append_bytes(out, b, part)
+    append_outcome(text, written);
+    text.append(b" ");
+    append_bytes(text, part);
 }

@@ -3,10 +3,12 @@ ghost use Rattle.std.specs.Prelude.{◌<◌};
 ghost use Rattle.io.specs.Counts.{IsPrefixLen};
 
 use crate::text::{append_broken, append_number, append_refused};
+use refusals::Reason;
+use text_buffer::TextBuffer;
 
-#[derive(Drop)]
-pub enum WordAnswer {
-    Result(u64),
+// Why there is no word.
+#[derive(Clone, Copy)]
+enum WordError {
     DividedByZero,
     Unknown,
 }
@@ -22,61 +24,49 @@ fn quotient(opcode: u64, a: u64, b: u64) -> u64
     }
 }
 
-fn divided(opcode: u64, a: u64, b: u64) -> WordAnswer {
+fn divided(opcode: u64, a: u64, b: u64) -> Result<u64, WordError> {
     if b == 0 {
-        return WordAnswer::DividedByZero;
+        return Err(WordError::DividedByZero);
     }
-    WordAnswer::Result(quotient(opcode, a, b))
+    Ok(quotient(opcode, a, b))
 }
 
-fn extended(a: u64, n: u64) -> WordAnswer {
+fn extended(a: u64, n: u64) -> Result<u64, WordError> {
     if n == 0 {
-        return WordAnswer::Unknown;
+        return Err(WordError::Unknown);
     }
-    WordAnswer::Result(arithmetic::ext(a, n))
+    Ok(arithmetic::ext(a, n))
 }
 
-fn bits(opcode: u64, a: u64, b: u64) -> WordAnswer {
+fn computed(opcode: u64, a: u64, b: u64) -> Result<u64, WordError> {
     match opcode {
-        0x0f => WordAnswer::Result(arithmetic::bit_and(a, b)),
-        0x10 => WordAnswer::Result(arithmetic::bit_or(a, b)),
-        0x11 => WordAnswer::Result(arithmetic::bit_xor(a, b)),
-        0x12 => WordAnswer::Result(arithmetic::bit_not(a)),
-        0x16 => extended(a, b),
-        0x2a => WordAnswer::Result(arithmetic::zero_ext(a, b)),
-        _ => WordAnswer::Unknown,
-    }
-}
-
-fn compared(opcode: u64, a: u64, b: u64) -> WordAnswer {
-    match opcode {
-        0x0e => WordAnswer::Result(arithmetic::log_not(a)),
-        0x13 => WordAnswer::Result(arithmetic::equal(a, b)),
-        0x14 => WordAnswer::Result(arithmetic::less_signed(a, b)),
-        0x15 => WordAnswer::Result(arithmetic::less_unsigned(a, b)),
-        _ => bits(opcode, a, b),
-    }
-}
-
-fn computed(opcode: u64, a: u64, b: u64) -> WordAnswer {
-    match opcode {
-        0x02 => WordAnswer::Result(arithmetic::add(a, b)),
-        0x03 => WordAnswer::Result(arithmetic::sub(a, b)),
-        0x04 => WordAnswer::Result(arithmetic::mul(a, b)),
+        0x02 => Ok(arithmetic::add(a, b)),
+        0x03 => Ok(arithmetic::sub(a, b)),
+        0x04 => Ok(arithmetic::mul(a, b)),
         0x05..=0x08 => divided(opcode, a, b),
-        0x09 => WordAnswer::Result(arithmetic::lsh(a, b)),
-        0x0a => WordAnswer::Result(arithmetic::rsh_signed(a, b)),
-        0x0b => WordAnswer::Result(arithmetic::rsh_unsigned(a, b)),
-        _ => compared(opcode, a, b),
+        0x09 => Ok(arithmetic::lsh(a, b)),
+        0x0a => Ok(arithmetic::rsh_signed(a, b)),
+        0x0b => Ok(arithmetic::rsh_unsigned(a, b)),
+        0x0e => Ok(arithmetic::log_not(a)),
+        0x0f => Ok(arithmetic::bit_and(a, b)),
+        0x10 => Ok(arithmetic::bit_or(a, b)),
+        0x11 => Ok(arithmetic::bit_xor(a, b)),
+        0x12 => Ok(arithmetic::bit_not(a)),
+        0x13 => Ok(arithmetic::equal(a, b)),
+        0x14 => Ok(arithmetic::less_signed(a, b)),
+        0x15 => Ok(arithmetic::less_unsigned(a, b)),
+        0x16 => extended(a, b),
+        0x2a => Ok(arithmetic::zero_ext(a, b)),
+        _ => Err(WordError::Unknown),
     }
 }
 
-pub fn append_word(out: &mut [u8], opcode: u64, a: u64, b: u64) -> usize
-    ensures { IsPrefixLen result out.new }
+pub fn append_word(text: &mut TextBuffer, opcode: u64, a: u64, b: u64)
+    ensures { IsPrefixLen text.new.end text.new.bytes.now }
 {
     match computed(opcode, a, b) {
-        WordAnswer::Result(word) => append_number(out, 0, word),
-        WordAnswer::DividedByZero => append_refused(out, 17),
-        WordAnswer::Unknown => append_broken(out),
+        Ok(word) => append_number(text, word),
+        Err(WordError::DividedByZero) => append_refused(text, Reason::DivisorZero),
+        Err(WordError::Unknown) => append_broken(text),
     }
 }

@@ -76,17 +76,7 @@ option. Exit status: 0 accepted or completed, 1 something was refused, 2 an erro
 }
 
 fn is_help_option(word: &[u8]) -> bool {
-    if check::same(word, b"-h") {
-        return true;
-    }
-    check::same(word, b"--help")
-}
-
-fn is_help(word: &[u8]) -> bool {
-    if check::same(word, b"help") {
-        return true;
-    }
-    is_help_option(word)
+    matches!(word, b"-h" | b"--help")
 }
 
 // Behind -- no word is an option.
@@ -107,66 +97,35 @@ fn print_version(console: &Console) {
 
 // Whether -h or --help stands somewhere behind the command.
 fn asks_help(console: &Console) -> bool {
-    let count = arguments::count(&console.rt);
-    let mut i = 2;
-    while i < count {
-        if is_help_at(console, i) {
-            return true;
-        }
-        i += 1;
-    }
-    false
+    (2..arguments::count(&console.rt)).any(|i| is_help_at(console, i))
 }
 
 fn print_unknown(console: &Console, word: &[u8]) {
-    if word.len() == 0 {
-        print_error(
-            console,
-            b"unknown command: lilivrez help lists what there is",
-        );
-        return;
+    let why = b"unknown command: lilivrez help lists what there is";
+    if word.is_empty() {
+        print_error(console, why);
+    } else {
+        print_error_of(console, word, why);
     }
-    print_error_of(
-        console,
-        word,
-        b"unknown command: lilivrez help lists what there is",
-    );
 }
 
 fn run_command(console: &Console, word: &[u8]) {
-    if check::same(word, b"explain") {
-        command_explain::run(console);
-        return;
+    match word {
+        b"--version" => print_version(console),
+        b"explain" => command_explain::run(console),
+        b"verify" => command_verify::verify::run(console),
+        b"run" => command_run::run::run(console),
+        b"frames" => command_frames::command::run(console),
+        _ => print_unknown(console, word),
     }
-    if check::same(word, b"verify") {
-        command_verify::verify::run(console);
-        return;
-    }
-    if check::same(word, b"run") {
-        command_run::run::run(console);
-        return;
-    }
-    if check::same(word, b"frames") {
-        command_frames::command::run(console);
-        return;
-    }
-    print_unknown(console, word);
 }
 
 fn run_word(console: &Console, word: &[u8]) {
-    if is_help(word) {
+    if word == b"help".as_slice() || is_help_option(word) || asks_help(console) {
         print_help(console);
-        return;
+    } else {
+        run_command(console, word);
     }
-    if asks_help(console) {
-        print_help(console);
-        return;
-    }
-    if check::same(word, b"--version") {
-        print_version(console);
-        return;
-    }
-    run_command(console, word);
 }
 
 // The word is empty where the argument is, and where it is longer than the buffer: both are no command.

@@ -11,6 +11,7 @@ use borrow.Author.Tests.{eq-eqb, ne_eqb, lt-ltb, le-ltb, lt-leb}
 use Rattle.memory.specs.Spans.{Target, spans_refusal}
 use Rattle.memory.specs.Joining.Holding.{cleared, held_at}
 use Rattle.memory.specs.Fetch.{holds_range, readable, whichever, bytes_at, fetch_refusal, fetched, rest_of}
+use Rattle.std.specs.Prelude.{Some}
 use Rattle.memory.specs.declared.Held.TheVariants.{InImage, InWork}
 use Rattle.memory.proofs.Promises.{holds_means, means_holds, fetch_first, fetch_0, readable_means, rest_refusal, held_image, held_work}
 use Rattle.lilivrez_agent.specs.Lent.{span_of, lent_at, fetch_values}
@@ -79,7 +80,7 @@ module _ (t : Target) (a k : ℕ) where
       fetched_where : readable t a k ≡ true → fetch_refusal t a k ≡ 0
       fetched_where r = (fetch_0 t a k).1 (fine, λ _. (readable_means t a k s).0 r)
 
-      pub image_lent : {i : ℕ} → InImage i ≡ held_at t a → k ≤ length t.image.bytes - i
+      pub image_lent : {i : ℕ} → Some (InImage i) ≡ held_at t a → k ≤ length t.image.bytes - i
           → (0 ≡ fetch_refusal t a k) × (1 ∷ i ∷ [] ≡ fetch_values (lent_at t a k))
       unfolding readable
       image_lent p h =
@@ -88,7 +89,7 @@ module _ (t : Target) (a k : ℕ) where
           let z = fetched_where (rw m) in
           (sym z, rw (lent_image z s m, o.1))
 
-      pub work_lent : {i : ℕ} → InWork i ≡ held_at t a → k ≤ length t.work.bytes - i
+      pub work_lent : {i : ℕ} → Some (InWork i) ≡ held_at t a → k ≤ length t.work.bytes - i
           → (0 ≡ fetch_refusal t a k) × (2 ∷ i ∷ [] ≡ fetch_values (lent_at t a k))
       unfolding readable
       work_lent p h =

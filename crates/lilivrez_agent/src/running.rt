@@ -7,23 +7,26 @@ ghost use Rattle.machine.specs.Run.{default_allowance};
 ghost use Rattle.runner.specs.Returned.{returned, returned_by};
 ghost use Rattle.lilivrez_agent.specs.RunValues.{EndNumbers, RunNumbers};
 
-use runner::{Outcome, Value};
+use machine::Inputs;
+use memory::{Span, Target};
+use refusals::Refusal;
+use runner::{Completed, Value};
 
-// An outcome as numbers: returned and stored. `used` is the used length given: a refusal leaves it as it is.
-fn store_outcome(outcome: Outcome, used: usize, out: &mut [u64; 6]) -> u32
+// What a run returned, as numbers: returned and stored. `used` is the used length given: a refusal leaves it as it is.
+fn store(outcome: Result<Completed, Refusal>, used: usize, out: &mut [u64; 6]) -> u32
     ensures { (g : Given) (o : Ended) → g.used ≡ used → returned_by outcome ≡ returned g o → EndNumbers g o result out.new }
 {
     match outcome {
-        Outcome::Refused(refusal) => {
+        Err(refusal) => {
             *out = [refusal.offset as u64, refusal.steps, used as u64, 0, 0, 0];
-            refusal.number as u32
+            u32::from(refusal.reason.number())
         }
-        Outcome::Completed(value, steps, length) => {
+        Ok(Completed { value, steps, used }) => {
             match value {
-                Value::Nothing => *out = [0, steps, length as u64, 0, 0, 0],
-                Value::Top(top) => *out = [0, steps, length as u64, 1, top, 0],
+                Value::Nothing => *out = [0, steps, used as u64, 0, 0, 0],
+                Value::Top(top) => *out = [0, steps, used as u64, 1, top, 0],
                 Value::TopAndBeneath(top, beneath) => {
-                    *out = [0, steps, length as u64, 2, top, beneath]
+                    *out = [0, steps, used as u64, 2, top, beneath]
                 }
             }
             0
@@ -33,7 +36,7 @@ fn store_outcome(outcome: Outcome, used: usize, out: &mut [u64; 6]) -> u32
 
 // Verifies the expression, checks the inputs, and runs it: at most `allowance` instructions. Returns the number of the
 // refusal, or 0 where the run completed. Stores the offset of the refusal, the steps, the used length, how many cells
-// the answer tells, the top and the cell beneath.
+// the answer tells, the top and the cell beneath. The parameters and `out` are flat, as C has them.
 pub fn lilivrez_run<'a>(
     expression: &[u8],
     registers: &[u64],
@@ -50,20 +53,23 @@ pub fn lilivrez_run<'a>(
 ) -> u32
     ensures { RunNumbers (given expression.now registers.now variables.old (target image_first image.now work_first work.now) tracepoint buffer.old used allowance) result out.new variables.new buffer.new }
 {
-    let outcome = runner::run(
-        expression,
+    let inputs = Inputs {
+        code: expression,
         registers,
-        image_first,
-        image,
-        work_first,
-        work,
-        variables,
-        buffer,
+        target: Target {
+            image: Span {
+                first: image_first,
+                bytes: image,
+            },
+            work: Span {
+                first: work_first,
+                bytes: work,
+            },
+        },
         used,
         tracepoint,
-        allowance,
-    );
-    store_outcome(outcome, used, out)
+    };
+    store(runner::run(inputs, variables, buffer, allowance), used, out)
 }
 
 // The same without an allowance given: at most 1,024 instructions.

@@ -4,15 +4,13 @@ use mathlib.Core.List.{List, [], ◌∷◌}
 use mathlib.Core.Path.{◌≡◌, refl}
 use Prim.Native.Nat.{ℕ}
 use lib.Dec.{T, eqb}
-use Rattle.refusals.specs.declared.Refusal.{Refusal}
+use Rattle.refusals.specs.Refusal.{Refusal}
 use Rattle.reader.specs.Located.{Located, frame, refused, located, walked}
 use Rattle.reader.specs.Read.{Read, memory_read, variable_read, refused_read, reading, Counted, counted, refused_count, counting}
 use Rattle.reader.proofs.Promises as page
 use Rattle.logic.specs.Tests.{member}
 use Rattle.refusals.specs.Numbers.{buffer_bad, trailer_broken, record_broken, no_such_frame, no_such_record}
-use Rattle.reader.specs.NextRecord.{next_record}
-use Rattle.reader.specs.declared.RecordStep.{RecordStep}
-use Rattle.reader.specs.declared.RecordStep.TheVariants.{Memory, Variable, Refused}
+use Rattle.reader.specs.NextRecord.{RecordStep, Memory, Variable, Refused, next_record}
 use Rattle.lilivrez_frames.specs.FrameValues.{IsRead, IsCounted, IsFound, IsStep, read_number_of, count_number, locate_number, step_number}
 
 or_right : (a b : Bool) → T b → T (a || b)

@@ -13,8 +13,7 @@ use Rattle.frames.specs.Trailer.{trailer_size}
 use Rattle.reader.specs.Located.{frame, located, walked}
 use Rattle.reader.specs.Read.{memory_read, reading, counting}
 use Rattle.reader.proofs.Promises as reader
-use Rattle.reader.specs.NextRecord.{next_record}
-use Rattle.reader.specs.declared.RecordStep.TheVariants.{Memory, Variable}
+use Rattle.reader.specs.NextRecord.{Memory, Variable, next_record}
 use Rattle.lilivrez_frames.specs.FrameValues.{IsRead, IsCounted, IsFound, IsStep, read_number_of, count_number, locate_number, step_number}
 use Rattle.lilivrez_frames.proofs.Numbers as numbers
 

@@ -3,8 +3,7 @@
 use Rattle.std.specs.Prelude.{List, [], ◌∷◌, ◌++◌, ℕ}
 use Rattle.reader.specs.Located.{Located, frame, refused, place_after}
 use Rattle.reader.specs.Read.{Read, memory_read, variable_read, refused_read, Counted, counted, refused_count}
-use Rattle.reader.specs.declared.RecordStep.{RecordStep}
-use Rattle.reader.specs.declared.RecordStep.TheVariants.{Memory, Variable, Refused}
+use Rattle.reader.specs.NextRecord.{RecordStep, Memory, Variable, Refused}
 
 -- the record was read, the records were counted, the frame was found, the next record was read
 abbrev pub IsRead : Read → Type 0

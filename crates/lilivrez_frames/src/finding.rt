@@ -3,8 +3,6 @@ ghost use Rattle.std.specs.Prelude.{◌≡◌};
 ghost use Rattle.reader.specs.Located.{located, walked};
 ghost use Rattle.lilivrez_frames.specs.FrameValues.{locate_number, locate_values, walk_values};
 
-use reader::FrameAnswer;
-
 // Finds frame number `frame` and looks at none of its records. Returns the number of the refusal, or 0. Stores the
 // offset of the refusal, the tracepoint number, the start of the frame and the length of its records.
 pub fn lilivrez_locate(buffer: &[u8], used: usize, frame: u64, out: &mut [u64; 4]) -> u32
@@ -12,13 +10,13 @@ pub fn lilivrez_locate(buffer: &[u8], used: usize, frame: u64, out: &mut [u64; 4
     ensures values { out.new ≡ locate_values (located buffer.now used frame) }
 {
     match reader::locate(buffer, used, frame) {
-        FrameAnswer::Refused(refusal) => {
+        Err(refusal) => {
             *out = [refusal.offset as u64, 0, 0, 0];
-            refusal.number as u32
+            u32::from(refusal.reason.number())
         }
-        FrameAnswer::Frame(tag, start, length) => {
-            let tracepoint = tag.tracepoint as u64;
-            *out = [0, tracepoint, start as u64, length as u64];
+        Ok(found) => {
+            let tracepoint = u64::from(found.tag.tracepoint);
+            *out = [0, tracepoint, found.start as u64, found.length as u64];
             0
         }
     }
@@ -33,13 +31,14 @@ pub fn lilivrez_walk(buffer: &[u8], place: usize, out: &mut [u64; 5]) -> u32
     ensures values { out.new ≡ walk_values place (walked buffer.now place) }
 {
     match reader::walk(buffer, place) {
-        FrameAnswer::Refused(refusal) => {
+        Err(refusal) => {
             *out = [refusal.offset as u64, 0, 0, 0, place as u64];
-            refusal.number as u32
+            u32::from(refusal.reason.number())
         }
-        FrameAnswer::Frame(tag, start, length) => {
-            let tracepoint = tag.tracepoint as u64;
-            *out = [0, tracepoint, start as u64, length as u64, start as u64];
+        Ok(found) => {
+            let tracepoint = u64::from(found.tag.tracepoint);
+            let start = found.start as u64;
+            *out = [0, tracepoint, start, found.length as u64, start];
             0
         }
     }

@@ -1,4 +1,5 @@
-// The frame reader, as functions with plain numbers: for Rust here, for C in lilivrez_frames_c (include/lilivrez_frames.h).
+// The frame reader, as functions with plain numbers: for Rust here, for C in lilivrez_frames_c
+// (include/lilivrez_frames.h). The numbers, kinds and arrays are those of the C interface.
 #![tactic(auto)]
 
 ghost use Rattle.std.specs.Prelude.{◌≡◌};

@@ -4,7 +4,7 @@ ghost use Rattle.reader.specs.Read.{reading, counting};
 ghost use Rattle.reader.specs.NextRecord.{next_record};
 ghost use Rattle.lilivrez_frames.specs.FrameValues.{read_number_of, read_values, count_number, count_values, step_number, step_values};
 
-use reader::{CountAnswer, RecordAnswer, RecordStep};
+use reader::Found;
 
 // Reads record number `index` of frame number `frame`, both from 0; frame 0 is the newest. Returns the number of the
 // refusal, or 0 where the record was read. Stores the offset of the refusal, the tracepoint number, the record's kind
@@ -15,18 +15,20 @@ pub fn lilivrez_read(buffer: &[u8], used: usize, frame: u64, index: u64, out: &m
     ensures values { out.new ≡ read_values (reading buffer.now used frame index) }
 {
     match reader::read(buffer, used, frame, index) {
-        RecordAnswer::Refused(refusal) => {
+        Err(refusal) => {
             *out = [refusal.offset as u64, 0, 0, 0, 0, 0];
-            refusal.number as u32
+            u32::from(refusal.reason.number())
         }
-        RecordAnswer::Memory(tag, address, length, place) => {
-            let tracepoint = tag.tracepoint as u64;
-            *out = [0, tracepoint, 1, address, length as u64, place as u64];
-            0
-        }
-        RecordAnswer::Variable(tag, variable, value) => {
-            let tracepoint = tag.tracepoint as u64;
-            *out = [0, tracepoint, 2, variable, value, 0];
+        Ok(read) => {
+            let tracepoint = u64::from(read.tag.tracepoint);
+            *out = match read.record {
+                Found::Memory {
+                    address,
+                    length,
+                    place,
+                } => [0, tracepoint, 1, address, length as u64, place as u64],
+                Found::Variable { number, value } => [0, tracepoint, 2, number, value, 0],
+            };
             0
         }
     }
@@ -39,13 +41,19 @@ pub fn lilivrez_count(buffer: &[u8], used: usize, frame: u64, out: &mut [u64; 5]
     ensures values { out.new ≡ count_values (counting buffer.now used frame) }
 {
     match reader::count_records(buffer, used, frame) {
-        CountAnswer::Refused(refusal) => {
+        Err(refusal) => {
             *out = [refusal.offset as u64, 0, 0, 0, 0];
-            refusal.number as u32
+            u32::from(refusal.reason.number())
         }
-        CountAnswer::Records(tag, start, length, records) => {
-            let tracepoint = tag.tracepoint as u64;
-            *out = [0, tracepoint, start as u64, length as u64, records as u64];
+        Ok(counted) => {
+            let tracepoint = u64::from(counted.frame.tag.tracepoint);
+            *out = [
+                0,
+                tracepoint,
+                counted.frame.start as u64,
+                counted.frame.length as u64,
+                counted.records as u64,
+            ];
             0
         }
     }
@@ -59,16 +67,20 @@ pub fn lilivrez_next_record(buffer: &[u8], end: usize, place: usize, out: &mut [
     ensures values { out.new ≡ step_values place (next_record buffer.now end place) }
 {
     match reader::next_record(buffer, end, place) {
-        RecordStep::Refused(refusal) => {
+        Err(refusal) => {
             *out = [refusal.offset as u64, 0, 0, 0, 0, place as u64];
-            refusal.number as u32
+            u32::from(refusal.reason.number())
         }
-        RecordStep::Memory(address, length, bytes, next) => {
-            *out = [0, 1, address, length as u64, bytes as u64, next as u64];
-            0
-        }
-        RecordStep::Variable(variable, value, next) => {
-            *out = [0, 2, variable, value, 0, next as u64];
+        Ok(found) => {
+            let next = found.next as u64;
+            *out = match found.record {
+                Found::Memory {
+                    address,
+                    length,
+                    place,
+                } => [0, 1, address, length as u64, place as u64, next],
+                Found::Variable { number, value } => [0, 2, number, value, 0, next],
+            };
             0
         }
     }

@@ -1,5 +1,5 @@
-// The frame reader as a static library, for C: include/lilivrez_frames.h says how it is called. Each function is that of the
-// same name in lilivrez_frames.
+// The frame reader as a static library, for C: include/lilivrez_frames.h says how it is called. Each function is that
+// of the same name in lilivrez_frames.
 #![tactic(auto)]
 
 ghost use Rattle.std.specs.Prelude.{◌≡◌};

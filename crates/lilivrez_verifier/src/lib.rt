@@ -6,8 +6,6 @@ ghost use Rattle.verdict.specs.Verdict.{verdict};
 ghost use Rattle.version.specs.Version.{version_number};
 ghost use Rattle.lilivrez_verifier.specs.VerdictNumbers.{verdict_number, verdict_values};
 
-use verdict::Verification;
-
 // Returns the number of the refusal, or 0 where the expression is accepted. Stores the offset of the refusal, the
 // instruction count, the greatest height and the longest walk.
 pub fn lilivrez_verify(expression: &[u8], out: &mut [u64; 4]) -> u32
@@ -15,13 +13,13 @@ pub fn lilivrez_verify(expression: &[u8], out: &mut [u64; 4]) -> u32
     ensures values { out.new ≡ verdict_values (verdict expression.now) }
 {
     match verifier::verify(expression) {
-        Verification::Refused(refusal) => {
+        Err(refusal) => {
             *out = [refusal.offset as u64, 0, 0, 0];
-            refusal.number as u32
+            u32::from(refusal.reason.number())
         }
-        Verification::Accepted(count, greatest, longest) => {
-            let height = greatest as u64;
-            *out = [0, count as u64, height, longest as u64];
+        Ok(accepted) => {
+            let height = u64::from(accepted.greatest);
+            *out = [0, accepted.count as u64, height, accepted.longest as u64];
             0
         }
     }

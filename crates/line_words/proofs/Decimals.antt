@@ -14,9 +14,9 @@ use Rattle.text_buffer.specs.Decimal.{decimal_by, decimal}
 use Rattle.text_buffer.proofs.Promises.{one_digit, more_digits, decimal_some}
 use Rattle.line_words.specs.Words.{leading}
 use Rattle.line_words.specs.Numbers.{is_digit, value_from, limited, number_in}
-use Rattle.line_words.specs.declared.numbers.Number.TheVariants.{Value}
+use Rattle.std.specs.Prelude.{Ok}
 use Rattle.line_words.proofs.Leading.{all, both, all_append, all_leading}
-use Rattle.line_words.proofs.Numbering.{limited_value, unsigned_all}
+use Rattle.line_words.proofs.Numbering.{limited_value, unsigned_whole}
 
 -- ---- its value
 value_append : (v : ℕ) (a b : List ℕ) → value_from 10 v (a ++ b) ≡ value_from 10 (value_from 10 v a) b
@@ -72,8 +72,8 @@ unfolding decimal
 decimal_digits n = digits_by (n + 1) n
 
 -- ---- a word of 64 bits is read back
-pub decimal_back : (n : ℕ) → n < 2 ^ 64 → number_in 10 (decimal n) ≡ Value n
+pub decimal_back : (n : ℕ) → n < 2 ^ 64 → number_in 10 (decimal n) ≡ Ok n
 decimal_back n h =
     let w = decimal n in
     let l : leading (is_digit 10) w ≡ length w = ap (leading (is_digit 10)) (sym (append-nil w)) ∙ all_leading (is_digit 10) w [] (decimal_digits n) tt in
-    sym (unsigned_all 10 w (leading (is_digit 10) w) refl (λ z. omega (arith, z, l, decimal_some n)) (omega (arith, l))) ∙ ap limited (decimal_value n) ∙ sym (limited_value n h)
+    sym (unsigned_whole 10 w (λ z. omega (arith, z, decimal_some n)) l) ∙ ap limited (decimal_value n) ∙ sym (limited_value n h)

@@ -3,9 +3,11 @@
 use Prim.Native.Nat.{ℕ, suc, ◌+◌, ◌≤◌, ◌<◌}
 use native.Mathlib.Numerals.{add-one}
 use native.Mathlib.Omega.{arith}
-use mathlib.Core.Bool.{Bool, true, false, not, ◌&&◌}
+use mathlib.Core.Bool.{Bool, true, false, cond, not, ◌&&◌}
 use mathlib.Core.List.{List, [], ◌∷◌, ◌++◌}
-use mathlib.Core.Path.{◌≡◌, refl, ap}
+use mathlib.Core.Path.{◌≡◌, refl, ap, ◌∙◌}
+use Rattle.std.specs.List.{prefix_len, take_while}
+use Rattle.std.proofs.lemmas.List.Folds.{length-prefix_len}
 use lib.Dec.{T}
 use lib.ListN.{length, drop, get_or, drop_of_length-le}
 use lib.Seq.{drop-cons}
@@ -74,3 +76,18 @@ both false y t u = absurd t
 pub all_append : (p : ℕ → Bool) (a b : List ℕ) → T (all p a) → T (all p b) → T (all p (a ++ b))
 all_append p [] b t u = u
 all_append p (c ∷ a) b t u = both (p c) (all p (a ++ b)) (and_left (p c) (all p a) t) (all_append p a b (and_right (p c) (all p a) t) u)
+
+-- ---- the library's words: a chain that takes characters while they pass
+pub taken_leading : (p : ℕ → Bool) (s : List ℕ) → length (take_while p s) ≡ leading p s
+taken_leading p s = length-prefix_len p s ∙ prefix_leading p s
+  where
+    prefix_leading : (p : ℕ → Bool) (s : List ℕ) → prefix_len p s ≡ leading p s
+    prefix_leading p [] = refl
+    prefix_leading p (c ∷ t) = elim (p c) as (λ b. cond b (1 + prefix_len p t) 0 ≡ cond b (suc (leading p t)) 0) [ true ↦ omega (arith, prefix_leading p t) | false ↦ refl ]
+
+pub leading_within : (p : ℕ → Bool) (s : List ℕ) → leading p s ≤ length s
+leading_within p [] = omega arith
+leading_within p (c ∷ t) = elim (p c) as (λ b. cond b (suc (leading p t)) 0 ≤ suc (length t)) [ true ↦ omega (arith, leading_within p t) | false ↦ omega arith ]
+
+pub taken : (p : ℕ → Bool) (s : List ℕ) {n : ℕ} → n ≡ length (take_while p s) → Counted p s n
+taken p s e = (e ∙ taken_leading p s, omega (arith, e, taken_leading p s, leading_within p s))

@@ -11,7 +11,7 @@ use Rattle.text_buffer.specs.Decimal.{decimal}
 use Rattle.line_words.specs.Words.{leading, is_in_word, Word, first_word, IsAt, same_bytes}
 use Rattle.line_words.specs.Numbers.{is_digit, number_in}
 use Rattle.line_words.specs.declared.Place.{Place}
-use Rattle.line_words.specs.declared.numbers.Number.TheVariants.{Value}
+use Rattle.std.specs.Prelude.{Ok}
 use Rattle.line_words.proofs.Leading as leads
 use Rattle.line_words.proofs.Wording as wording
 use Rattle.line_words.proofs.Same as same
@@ -75,5 +75,5 @@ same_sound = same.same_sound
 pub decimal_digits : (n : ℕ) → T (all (is_digit 10) (decimal n))
 decimal_digits = decimals.decimal_digits
 
-pub decimal_back : (n : ℕ) → n < 2 ^ 64 → number_in 10 (decimal n) ≡ Value n
+pub decimal_back : (n : ℕ) → n < 2 ^ 64 → number_in 10 (decimal n) ≡ Ok n
 decimal_back = decimals.decimal_back

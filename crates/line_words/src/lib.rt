@@ -1,7 +1,7 @@
 // Words of a line: what stands between its blanks; and the numbers that they spell.
 #![tactic(auto)]
 
-ghost use Rattle.std.specs.Prelude.{◌≡◌, ◌≤◌, length, drop};
+ghost use Rattle.std.specs.Prelude.{◌≡◌, ◌≤◌, not, length, drop, take_while};
 ghost use Rattle.hexadecimal.specs.Hex.{is_blank};
 ghost use Rattle.line_words.specs.Words.{leading, is_in_word, first_word, IsAt, same_bytes};
 
@@ -18,30 +18,22 @@ pub struct Place {
 
 // The number of blanks at the start.
 fn blanks(text: &[u8]) -> usize
-    ensures { (result ≡ leading is_blank text.now) × (result ≤ length text.now) }
+    ensures { result ≡ length (take_while is_blank text.now) }
 {
-    let mut n = 0;
-    while n < text.len() {
-        if !is_blank(text[n]) {
-            return n;
-        }
-        n += 1;
-    }
-    n
+    text.iter().take_while(|c| is_blank(**c)).count()
+}
+
+fn before_blank(text: &[u8]) -> usize
+    ensures { result ≡ length (take_while (λ c. not (is_blank c)) text.now) }
+{
+    text.iter().take_while(|c| !is_blank(**c)).count()
 }
 
 // The number of characters before the first blank.
 pub fn word_length(text: &[u8]) -> usize
     ensures { (result ≡ leading is_in_word text.now) × (result ≤ length text.now) }
 {
-    let mut n = 0;
-    while n < text.len() {
-        if is_blank(text[n]) {
-            return n;
-        }
-        n += 1;
-    }
-    n
+    before_blank(text)
 }
 
 // The first word from column `at` on.
@@ -57,5 +49,5 @@ pub fn next_word(line: &[u8], at: usize) -> Place
 pub fn is_same(a: &[u8], b: &[u8]) -> bool
     ensures { result ≡ same_bytes a.now b.now }
 {
-    check::same(a, b)
+    a == b
 }

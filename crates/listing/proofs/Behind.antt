@@ -12,9 +12,9 @@ use Rattle.line_words.proofs.Promises.{all, all_append}
 use Rattle.encoding.specs.Ranges.{AllBytes}
 use Rattle.text_buffer.specs.Decimal.{decimal}
 use Rattle.instruction_text.specs.Text.{text_at}
+use Rattle.listing.specs.Line.{instruction}
 use Rattle.listing.specs.Meant.{is_heading, is_not, meant}
 use Rattle.listing.specs.Listing.{bytes, after_bytes, read_lines, lines_of}
-use Rattle.listing.specs.declared.reading.ListingLine.TheVariants.{Instruction}
 use Rattle.listing.proofs.Inverse.{plain_digits, plain_spaces, plain_row, feedless, comment_back, line_divided, operand_low, operand_below, line_then}
 use Rattle.listing.proofs.Plain.{good_name}
 use Rattle.instruction_text.proofs.Promises.{Instructed, row_text, text_parts}
@@ -50,7 +50,7 @@ module _ (e : List ℕ) (low : AllBytes e) (k : ℕ) (h : k < 2 ^ 64) (i : Instr
   row_feedless : Feedless row
   row_feedless = feedless row (plain_row k (get_or e k 0) (operand_bytes e k) (operand e k) (good_name (get_or e k 0) i.supported) (operand_low e low k i))
 
-  row_meant : (n : ℕ) (t : List ℕ) → meant k ((row ++ (replicate n 32 ++ (35 ∷ t))) ++ (10 ∷ [])) ≡ Instruction (get_or e k 0) (operand_bytes e k) (operand e k)
+  row_meant : (n : ℕ) (t : List ℕ) → meant k ((row ++ (replicate n 32 ++ (35 ∷ t))) ++ (10 ∷ [])) ≡ instruction (get_or e k 0) (operand_bytes e k) (operand e k)
   unfolding text_at
   row_meant n t =
       let b : List ℕ = replicate n 32 in

@@ -1,65 +1,58 @@
 -- A whole listing line by line, for the proofs of the functions of `whole`. Assumes nothing.
 use Prim.Native.Nat.{ℕ, suc, ◌+◌, ◌-◌, ◌≤◌, ◌<◌}
-use Prim.Native.String.{String}
 use native.Mathlib.Decide.{ℕ_discrete}
 use native.Mathlib.Omega.{arith}
-use mathlib.Core.Bool.{Bool, true, false, ◌||◌}
+use mathlib.Core.Bool.{Bool, true, false, cond, ◌&&◌}
 use mathlib.Core.List.{List, [], ◌∷◌}
-use mathlib.Core.Path.{◌≡◌, refl, sym, ap, ◌∙◌}
-use lib.Dec.{T}
+use mathlib.Core.Path.{◌≡◌, refl, sym, ap, subst, ◌∙◌}
+use lib.Dec.{eqb}
 use lib.ListN.{length, take, drop, length-drop, drop_of_length-le}
 use lib.Seq.{take_all, take-take, length-take-le, drop-drop}
 use borrow.Author.Tests.{eq-eqb, ne_eqb}
+use Rattle.std.proofs.Common.{Result, Ok, Err, ap₂}
+use Rattle.std.specs.List.{prefix_len, take_while}
+use Rattle.std.specs.Cmp.Lexicographic.{pointwise}
+use Rattle.std.proofs.lemmas.List.Folds.{length-prefix_len}
+use Rattle.std.proofs.lemmas.List.Sums.{prefix_len-le-length}
 use Rattle.encoding.proofs.Promises.{part_lent}
-use Rattle.text_buffer.specs.Text.{bytes_of}
 use Rattle.line_words.specs.Words.{leading, same_bytes}
-use Rattle.line_words.proofs.Promises.{Counted, same_sound}
-use Rattle.listing.specs.Line.{read_line, read_answer, read_left}
-use Rattle.listing.specs.Meant.{headings, begins, begins_one, is_heading, is_not, before, before_comment, meant}
+use Rattle.line_words.proofs.Promises.{Counted}
+use Rattle.listing.specs.Line.{nothing, read_line, read_answer, read_left, taken, end_by, read_end}
+use Rattle.listing.proofs.Lining.{left_length}
+use Rattle.listing.specs.Meant.{begins, is_heading, is_not, before, before_comment, meant}
 use Rattle.listing.specs.Listing.{onto, lines_of, IsLine}
 use Rattle.listing.specs.Whole.{ListingOutcome, after_line, outcome_from, outcome}
-use Rattle.listing.specs.declared.reading.LineFault.{LineFault}
-use Rattle.listing.specs.declared.reading.ListingLine.TheVariants.{Nothing}
-use Rattle.listing.specs.declared.reading.LineRead.{LineRead}
-use Rattle.listing.specs.declared.reading.LineRead.TheVariants.{Bytes as LineRead·bytes, NoRoom as LineRead·noRoom, Wrong as LineRead·wrong}
-use Rattle.listing.specs.declared.whole.ListingRead.{ListingRead}
-use Rattle.listing.specs.declared.whole.ListingRead.TheVariants.{Bytes, NoRoom, Wrong}
+use Rattle.listing.specs.declared.reading.Unread.{Unread}
+use Rattle.listing.specs.declared.whole.ListingFault.{ListingFault}
 
 -- ---- `begins_with`
-falsehood : (b : Bool) → (T b → ⊥) → false ≡ b
-falsehood true f = absurd (f tt)
-falsehood false f = refl
+eqb_sym : (x y : ℕ) → eqb x y ≡ eqb y x
+eqb_sym x y =
+    elim (ℕ_discrete x y) [
+      | yes e ↦ eq-eqb x y e ∙ sym (eq-eqb y x (sym e))
+      | no n ↦ ne_eqb x y n ∙ sym (ne_eqb y x (λ e. n (sym e)))
+    ]
 
-pub begins_short : (w l : List ℕ) → length l < length w → false ≡ begins w l
-begins_short w l h =
-    falsehood (begins w l) (λ t. omega (arith, ap length (same_sound (take (length w) l) w t), ap length (take_all (length w) l (omega arith))))
+same_is : (w l : List ℕ) → pointwise eqb w l ≡ same_bytes l w
+same_is [] [] = refl
+same_is [] (y ∷ l) = refl
+same_is (x ∷ w) [] = refl
+same_is (x ∷ w) (y ∷ l) = ap₂ (λ (a b : Bool). a && b) (eqb_sym x y) (same_is w l)
 
-pub begins_long : (w l : List ℕ) (r : Bool) → r ≡ same_bytes (take (length w - 0) l) w → r ≡ begins w l
-begins_long w l r e =
-    let z : length w - 0 ≡ length w = omega arith in
-    e ∙ ap (λ (j : ℕ). same_bytes (take j l) w) z
+pub begins_is : (w l : List ℕ) → pointwise eqb w (take (length w) l) ≡ begins w l
+begins_is w l = same_is w (take (length w) l)
 
--- ---- `is_heading`: the headings hs are left to be tried
-pub record Trying (hs : List String) (l : List ℕ) : Type 0 where
-  pub rest : is_heading l ≡ begins_one hs l
+-- ---- what stands before a character
+one_more : (b : Bool) {m n : ℕ} → m ≡ n → cond b (1 + m) 0 ≡ cond b (suc n) 0
+one_more true e = omega (arith, e)
+one_more false e = refl
 
-pub trying_start : (l : List ℕ) → Trying ("Scope:" ∷ "Reg mask:" ∷ "accepted: " ∷ "refused " ∷ "note: " ∷ "bytes " ∷ []) l
-unfolding is_heading headings
-trying_start l = record { rest = refl }
+leading_is : (p : ℕ → Bool) (l : List ℕ) → prefix_len p l ≡ leading p l
+leading_is p [] = refl
+leading_is p (c ∷ l) = one_more (p c) (leading_is p l)
 
-module _ {h : String} {hs : List String} {l : List ℕ} (s : Trying (h ∷ hs) l) (r : Bool) (is : r ≡ begins (bytes_of h) l) where
-  by_heading : is_heading l ≡ r || begins_one hs l
-  by_heading = s.rest ∙ ap (λ (b : Bool). b || begins_one hs l) (sym is)
-
-  pub trying_here : r ≡ true → true ≡ is_heading l
-  trying_here t = sym (rw t at by_heading)
-
-  pub trying_on : r ≡ false → Trying hs l
-  trying_on f = record { rest = rw f at by_heading }
-
-pub trying_last : {h : String} {l : List ℕ} → Trying (h ∷ []) l → (r : Bool) → r ≡ begins (bytes_of h) l → r ≡ is_heading l
-trying_last s true is = sym (by_heading s true is)
-trying_last s false is = sym (by_heading s false is)
+pub counted : (p : ℕ → Bool) (l : List ℕ) (n : ℕ) → n ≡ length (take_while p l) → Counted p l n
+counted p l n e = (e ∙ length-prefix_len p l ∙ leading_is p l, omega (arith, e, length-prefix_len p l, prefix_len-le-length p l))
 
 -- ---- `before_comment`: n characters before the line feed, and m of them before #
 pub comment_cut : (l : List ℕ) (n m : ℕ) → Counted (is_not 10) l n → Counted (is_not 35) (take (n - 0) l) m → (take m l ≡ before_comment l) × (m ≤ length l)
@@ -73,7 +66,7 @@ comment_cut l n m p q =
 
 -- ---- `take_line`
 module _ (at : ℕ) (l : List ℕ) (r : Bool) (is : r ≡ is_heading l) where
-  pub meant_nothing : r ≡ true → Nothing ≡ meant at l
+  pub meant_nothing : r ≡ true → nothing ≡ meant at l
   unfolding meant
   meant_nothing t = rw (sym is ∙ t)
 
@@ -157,35 +150,56 @@ pub record ListingTurn (t o₀ : List ℕ) (i n at : ℕ) (o : List ℕ) : Type 
   pub rest : outcome_from n at o (lines_of (drop i t)) ≡ outcome t o₀
 
 -- what `read_listing` ensures
-abbrev pub Reads : List ℕ → List ℕ → ListingRead → List ℕ → Type 0
-Reads t o₀ r o = (r ≡ (outcome t o₀).answer) × ((o ≡ (outcome t o₀).left) × ((n : ℕ) → r ≡ Bytes n → n ≤ length o))
+pub record Reads (t o₀ : List ℕ) (r : Result ℕ ListingFault) (o : List ℕ) : Type 0 where
+  pub answer : r ≡ (outcome t o₀).answer
+  pub bytes : o ≡ (outcome t o₀).left
 
 pub reading_start : (t o : List ℕ) → ListingTurn t o 0 1 0 o
 unfolding outcome
 reading_start t o = record { inside = omega arith; few = omega arith; room = omega arith; same = refl; rest = refl }
 
 module _ {t o₀ : List ℕ} {i n at : ℕ} {o : List ℕ} (g : ListingTurn t o₀ i n at o) where
-  pub reading_end : length t ≤ i → Reads t o₀ (Bytes at) o
+  pub reading_end : length t ≤ i → Reads t o₀ (Ok at) o
   unfolding outcome_from lines_of
   reading_end h =
-      let e : record { answer = Bytes at; left = o } ≡ outcome t o₀ = sym (ap (λ (l : List ℕ). outcome_from n at o (lines_of l)) (drop_of_length-le t h)) ∙ g.rest in
-      (ap (λ (x : ListingOutcome). x.answer) e, (ap (λ (x : ListingOutcome). x.left) e, λ m q. let same : at ≡ m = cc in omega (arith, g.room)))
+      let e : record { answer = Ok at; left = o } ≡ outcome t o₀ = sym (ap (λ (l : List ℕ). outcome_from n at o (lines_of l)) (drop_of_length-le t h)) ∙ g.rest in
+      record { answer = ap (λ (x : ListingOutcome). x.answer) e; bytes = ap (λ (x : ListingOutcome). x.left) e }
 
-  module _ {j : ℕ} (is : IsLine t i j) (r : LineRead) (o' : List ℕ)
+  module _ {j : ℕ} (is : IsLine t i j) (r : Result ℕ Unread) (o' : List ℕ)
       (answer : r ≡ read_answer (meant at (take (j - i) (drop i t))) at o) (bytes : o' ≡ read_left (meant at (take (j - i) (drop i t))) at o) where
     after : after_line n o' r (λ k. outcome_from (n + 1) (at + k) o' (lines_of (drop j t))) ≡ outcome t o₀
     unfolding outcome_from
     after = rw (answer, bytes) (sym (ap (outcome_from n at o) is.first_is) ∙ g.rest)
 
-    pub reading_on : (k : ℕ) → r ≡ LineRead·bytes k → at + k ≤ length o' → length o' ≡ length o → ListingTurn t o₀ j (n + 1) (at + k) o'
+    pub reading_on : (k : ℕ) → r ≡ Ok k → at + k ≤ length o' → length o' ≡ length o → ListingTurn t o₀ j (n + 1) (at + k) o'
     reading_on k e h s = record { inside = is.within; few = omega (arith, g.few, is.more); room = h; same = s ∙ g.same; rest = rw e at after }
 
-    pub reading_full : r ≡ LineRead·noRoom → Reads t o₀ (NoRoom n) o'
-    reading_full e =
+    pub reading_wrong : (u : Unread) → r ≡ Err u → Reads t o₀ (Err (record { line = n; why = u })) o'
+    reading_wrong u e =
         let a = rw e at after in
-        (ap (λ (x : ListingOutcome). x.answer) a, (ap (λ (x : ListingOutcome). x.left) a, λ m q. let z : ◌≡◌ {A = ℕ} 0 1 = cc in omega arith))
+        record { answer = ap (λ (x : ListingOutcome). x.answer) a; bytes = ap (λ (x : ListingOutcome). x.left) a }
 
-    pub reading_wrong : (f : LineFault) (c : ℕ) → r ≡ LineRead·wrong f c → Reads t o₀ (Wrong n f c) o'
-    reading_wrong f c e =
-        let a = rw e at after in
-        (ap (λ (x : ListingOutcome). x.answer) a, (ap (λ (x : ListingOutcome). x.left) a, λ m q. let z : ◌≡◌ {A = ℕ} 0 1 = cc in omega arith))
+  -- the same by whether the line was read, and by where the text ends then
+  module _ {j : ℕ} (is : IsLine t i j) (r : Result (Unit {0}) Unread) (e' : ℕ) (o' : List ℕ)
+      (answer : r ≡ taken (read_answer (meant at (take (j - i) (drop i t))) at o)) (end : e' ≡ read_end (meant at (take (j - i) (drop i t))) at o)
+      (bytes : o' ≡ read_left (meant at (take (j - i) (drop i t))) at o) where
+    on_by : (x : Result ℕ Unread) → x ≡ read_answer (meant at (take (j - i) (drop i t))) at o → r ≡ Ok tt → e' ≤ length o' → ListingTurn t o₀ j (n + 1) e' o'
+    on_by (Ok k) q h w =
+        let z : e' ≡ at + k = end ∙ ap (end_by at) (sym q) in
+        let same = ap length bytes ∙ left_length (meant at (take (j - i) (drop i t))) at o in
+        subst (λ (a : ℕ). ListingTurn t o₀ j (n + 1) a o') (sym z) (reading_on is (Ok k) o' q bytes k refl (omega (arith, z, w)) same)
+    on_by (Err u) q h w = absurd (let y : Ok tt ≡ Err u = sym h ∙ answer ∙ ap taken (sym q) in cc)
+
+    pub taken_on : r ≡ Ok tt → e' ≤ length o' → ListingTurn t o₀ j (n + 1) e' o'
+    taken_on = on_by (read_answer (meant at (take (j - i) (drop i t))) at o) refl
+
+    wrong_by : (x : Result ℕ Unread) → x ≡ read_answer (meant at (take (j - i) (drop i t))) at o → (u : Unread) → r ≡ Err u
+        → Reads t o₀ (Err (record { line = n; why = u })) o'
+    wrong_by (Ok k) q u h = absurd (let y : Err u ≡ Ok tt = sym h ∙ answer ∙ ap taken (sym q) in cc)
+    wrong_by (Err w) q u h =
+        let y : Err u ≡ Err w = sym h ∙ answer ∙ ap taken (sym q) in
+        let z : u ≡ w = cc in
+        reading_wrong is (Err w) o' q bytes u (ap (λ (x : Unread). Err x) (sym z))
+
+    pub taken_wrong : (u : Unread) → r ≡ Err u → Reads t o₀ (Err (record { line = n; why = u })) o'
+    taken_wrong = wrong_by (read_answer (meant at (take (j - i) (drop i t))) at o) refl

@@ -1,4 +1,5 @@
 -- The text of an instruction is read back as the instruction, and a listing as the expression. Assumes nothing.
+use Rattle.std.specs.Prelude.{Ok}
 use Prim.Native.Nat.{ℕ, zero, suc, ◌+◌, ◌-◌, ◌^◌, ◌≤◌, ◌<◌}
 use native.Mathlib.Nat.{pow-le-pow_right}
 use native.Mathlib.Omega.{arith}
@@ -22,16 +23,13 @@ use Rattle.text_buffer.proofs.Promises.{decimal_some}
 use Rattle.instruction_text.specs.Names.{name_of, opcode_of}
 use Rattle.line_words.specs.Words.{is_in_word, Word, first_word, behind}
 use Rattle.line_words.specs.Numbers.{is_digit}
-use Rattle.line_words.specs.declared.numbers.Number.TheVariants.{Value}
 use Rattle.line_words.proofs.Promises.{truth, all, stops, both, all_append, first_word_lem, last_blanks, decimal_digits, decimal_back}
 use Rattle.text_buffer.specs.Decimal.{decimal}
 use Rattle.listing.specs.Numbers.{negated, signed_number}
 use Rattle.instruction_text.specs.Text.{aligned, operand_text, text_of, text_at, is_instruction}
-use Rattle.listing.specs.Line.{operands_of, by_word, line_ended, operand_number, operand_by, from_operand, by_opcode, name_by, from_name, by_offset, line_by, read_line, line_bytes}
+use Rattle.listing.specs.Line.{ListingLine, instruction, operands_of, by_word, line_ended, operand_number, operand_by, from_operand, by_opcode, name_by, from_name, by_offset, line_by, read_line, line_bytes}
 use Rattle.listing.specs.Meant.{headings, is_heading, is_not, before, before_comment, meant}
 use Rattle.listing.specs.Listing.{listing_from, listing, all_instructions, bytes, after_bytes, then_lines, read_lines, joined_lines, onto, lines_of, listing_text, read_text}
-use Rattle.listing.specs.declared.reading.ListingLine.{ListingLine}
-use Rattle.listing.specs.declared.reading.ListingLine.TheVariants.{Instruction}
 use Rattle.listing.proofs.Numbering.{digit_range, negated_value, signed_minus, signed_plain}
 use Rattle.listing.proofs.Plain.{is_plain, GoodName, good_name}
 use Rattle.phrases.specs.Numbers.{signed_text}
@@ -68,19 +66,19 @@ first_digit [] t h = absurd (omega (arith, h))
 first_digit (c ∷ w) t h = truth (is_digit 10 c) (and_left (is_digit 10 c) (all (is_digit 10) w) t)
 
 -- ---- a number is read back
-number_low : (v : ℕ) → v < 2 ^ 63 → signed_number (signed_text v) ≡ Value v
+number_low : (v : ℕ) → v < 2 ^ 63 → signed_number (signed_text v) ≡ Ok v
 number_low v h =
     let f = digit_range (get_or (decimal v) 0 0) (first_digit (decimal v) (decimal_digits v) (decimal_some v)) in
     ap signed_number (sym (signed_low v h)) ∙ sym (signed_plain (decimal v) (λ z. omega (arith, z, f.0))) ∙ decimal_back v (omega (arith, h))
 
-number_high : (v : ℕ) → 2 ^ 63 ≤ v → v < 2 ^ 64 → signed_number (signed_text v) ≡ Value v
+number_high : (v : ℕ) → 2 ^ 63 ≤ v → v < 2 ^ 64 → signed_number (signed_text v) ≡ Ok v
 number_high v g h =
     let d = 18446744073709551615 - v + 1 in
     let e : 18446744073709551615 - d + 1 ≡ v = omega arith in
     ap signed_number (sym (signed_high v g h)) ∙ sym (signed_minus (45 ∷ decimal d) refl) ∙ ap negated (decimal_back d (omega arith))
-    ∙ sym (negated_value d (λ z. omega (arith, z)) (omega arith)) ∙ ap Value e
+    ∙ sym (negated_value d (λ z. omega (arith, z)) (omega arith)) ∙ ap (λ (x : ℕ). Ok x) e
 
-number_back : (v : ℕ) → v < 2 ^ 64 → signed_number (signed_text v) ≡ Value v
+number_back : (v : ℕ) → v < 2 ^ 64 → signed_number (signed_text v) ≡ Ok v
 number_back v h = cases v (2 ^ 63) (number_low v) (λ g. number_high v g h)
 
 signed_word : (v : ℕ) → v < 2 ^ 64 → T (all is_in_word (signed_text v))
@@ -117,11 +115,11 @@ spaces (suc n) = spaces n
 
 -- ---- a line that ends with the blanks r: its end, and the operand before it
 module _ (r : List ℕ) (blank : T (all is_blank r)) where
-  ended_back : (op count v p : ℕ) → line_ended op count v p r ≡ Instruction op count v
+  ended_back : (op count v p : ℕ) → line_ended op count v p r ≡ instruction op count v
   unfolding line_ended
-  ended_back op count v p = by_none (first_word p r) (Instruction op count v) _ (last_blanks p r blank)
+  ended_back op count v p = by_none (first_word p r) (instruction op count v) _ (last_blanks p r blank)
 
-  operand_back : (op count v p : ℕ) → v < 2 ^ 64 → v < 256 ^ count → from_operand op count p ((32 ∷ []) ++ (signed_text v ++ r)) ≡ Instruction op count v
+  operand_back : (op count v p : ℕ) → v < 2 ^ 64 → v < 256 ^ count → from_operand op count p ((32 ∷ []) ++ (signed_text v ++ r)) ≡ instruction op count v
   unfolding from_operand is_blank
   operand_back op count v p h l =
       let w : Word = record { column = p + 1; bytes = signed_text v; rest = r } in
@@ -147,7 +145,7 @@ module _ (r : List ℕ) (blank : T (all is_blank r)) where
       (λ l. subst (λ (m : List ℕ). T (stops is_in_word m)) (tail_none count v (omega (arith, l))) (blank_stops r blank))
 
   module _ (op count v : ℕ) (good : GoodName op) (is : count ≡ operands_of op) (low : v < 2 ^ 64) (fits : v < 256 ^ count) where
-    rest_back : (p : ℕ) → cond (eqb count 0) (line_ended op 0 0 p (tail count v)) (from_operand op count p (tail count v)) ≡ Instruction op count v
+    rest_back : (p : ℕ) → cond (eqb count 0) (line_ended op 0 0 p (tail count v)) (from_operand op count p (tail count v)) ≡ instruction op count v
     rest_back p =
         cases 0 count
         (λ g.
@@ -157,9 +155,9 @@ module _ (r : List ℕ) (blank : T (all is_blank r)) where
         let z : count ≡ 0 = omega (arith, l) in
         let o : v < 256 ^ 0 = rw z at fits in
         let y : v ≡ 0 = omega (arith, o) in
-        rw (eq-eqb count 0 z) (ap (line_ended op 0 0 p) (sym (tail_none count v z)) ∙ ended_back op 0 0 p ∙ ap (λ (x : ℕ). Instruction op x 0) (sym z) ∙ ap (Instruction op count) (sym y)))
+        rw (eq-eqb count 0 z) (ap (line_ended op 0 0 p) (sym (tail_none count v z)) ∙ ended_back op 0 0 p ∙ ap (λ (x : ℕ). instruction op x 0) (sym z) ∙ ap (instruction op count) (sym y)))
 
-    name_back : (p : ℕ) → from_name p ((32 ∷ 32 ∷ []) ++ (name_of op ++ tail count v)) ≡ Instruction op count v
+    name_back : (p : ℕ) → from_name p ((32 ∷ 32 ∷ []) ++ (name_of op ++ tail count v)) ≡ instruction op count v
     unfolding from_name is_blank
     name_back p =
         let w : Word = record { column = p + 2; bytes = name_of op; rest = tail count v } in
@@ -168,7 +166,7 @@ module _ (r : List ℕ) (blank : T (all is_blank r)) where
         ∙ rw (lt-leb (kind (class_of op)) kind_unsupported good.supported, ← is) (rest_back (behind w))
 
     -- ---- the whole line
-    pub line_back : (at : ℕ) → at < 2 ^ 64 → read_line at (row_text at op count v ++ r) ≡ Instruction op count v
+    pub line_back : (at : ℕ) → at < 2 ^ 64 → read_line at (row_text at op count v ++ r) ≡ instruction op count v
     unfolding read_line aligned is_in_word is_blank
     line_back at h =
         let d = decimal at in
@@ -259,14 +257,14 @@ module _ (op count v : ℕ) (good : GoodName op) (is : count ≡ operands_of op)
       let f = digit_range (get_or d 0 0) (first_digit d (decimal_digits at) (decimal_some at)) in
       ap is_heading (row_parts at op count v m) ∙ number_first (3 - length d) d _ (decimal_some at) (omega (arith, f.1))
 
-  pub row_back : (m : List ℕ) → T (all is_blank (before_comment m)) → meant at (row_text at op count v ++ m) ≡ Instruction op count v
+  pub row_back : (m : List ℕ) → T (all is_blank (before_comment m)) → meant at (row_text at op count v ++ m) ≡ instruction op count v
   unfolding meant
   row_back m t =
       rw (row_instructs m)
       (ap (read_line at) (comment_behind (row_text at op count v) m (plain_row at op count v good low)) ∙ line_back (before_comment m) t op count v good is low fits at h)
 
   -- a line a, which is the text of the instruction without its line feed, with n spaces and a comment behind it
-  pub comment_back : (a : List ℕ) → a ++ (10 ∷ []) ≡ text_of at op count v → (n : ℕ) (t : List ℕ) → meant at (a ++ (replicate n 32 ++ (35 ∷ t))) ≡ Instruction op count v
+  pub comment_back : (a : List ℕ) → a ++ (10 ∷ []) ≡ text_of at op count v → (n : ℕ) (t : List ℕ) → meant at (a ++ (replicate n 32 ++ (35 ∷ t))) ≡ instruction op count v
   unfolding text_of before_comment
   comment_back a e n t =
       let w = row_text at op count v in
@@ -302,20 +300,20 @@ module _ (e : List ℕ) (low : AllBytes e) where
     pub operand_low : operand e k < 2 ^ 64
     operand_low = word_low (get_or e k 0) (operand e k) operand_below
 
-    pub instruction_back : k < 2 ^ 64 → read_line k (text_at e k) ≡ Instruction (get_or e k 0) (operand_bytes e k) (operand e k)
+    pub instruction_back : k < 2 ^ 64 → read_line k (text_at e k) ≡ instruction (get_or e k 0) (operand_bytes e k) (operand e k)
     unfolding is_blank
     instruction_back h =
         ap (read_line k) (sym (text_parts e k))
         ∙ line_back (10 ∷ []) tt (get_or e k 0) (operand_bytes e k) (operand e k) (good_name (get_or e k 0) i.supported) refl operand_low operand_below k h
 
-    instruction_meant : k < 2 ^ 64 → meant k (text_at e k) ≡ Instruction (get_or e k 0) (operand_bytes e k) (operand e k)
+    instruction_meant : k < 2 ^ 64 → meant k (text_at e k) ≡ instruction (get_or e k 0) (operand_bytes e k) (operand e k)
     unfolding before_comment
     instruction_meant h =
         ap (meant k) (sym (text_parts e k))
         ∙ row_back (get_or e k 0) (operand_bytes e k) (operand e k) (good_name (get_or e k 0) i.supported) refl operand_low operand_below k h (10 ∷ []) tt
 
     -- its bytes are those of the expression
-    pub instruction_bytes : line_bytes (Instruction (get_or e k 0) (operand_bytes e k) (operand e k)) ≡ take (1 + operand_bytes e k) (drop k e)
+    pub instruction_bytes : line_bytes (instruction (get_or e k 0) (operand_bytes e k) (operand e k)) ≡ take (1 + operand_bytes e k) (drop k e)
     unfolding operand
     instruction_bytes =
         let n = operand_bytes e k in
@@ -333,12 +331,12 @@ module _ (e : List ℕ) (low : AllBytes e) where
   back_end i h s t n = ap (λ (l : List ℕ). read_lines n i (map (text_at e) l)) (from_end e i h) ∙ ap bytes (sym (drop_of_length-le e h))
 
   -- a line that is meant as the instruction at i, and lines for what is behind it
-  pub line_then : (i : ℕ) → Instructed e i → (l : List ℕ) → meant i l ≡ Instruction (get_or e i 0) (operand_bytes e i) (operand e i)
+  pub line_then : (i : ℕ) → Instructed e i → (l : List ℕ) → meant i l ≡ instruction (get_or e i 0) (operand_bytes e i) (operand e i)
       → (m : ℕ) (ls : List (List ℕ)) → read_lines (m + 1) (next e i) ls ≡ bytes (drop (next e i) e) → read_lines m i (l ∷ ls) ≡ bytes (drop i e)
   unfolding read_lines
   line_then i c l s m ls g =
       let n = operand_bytes e i in
-      let d = line_bytes (Instruction (get_or e i 0) n (operand e i)) in
+      let d = line_bytes (instruction (get_or e i 0) n (operand e i)) in
       let z : d ≡ take (1 + n) (drop i e) = instruction_bytes i c in
       let y : i + length d ≡ next e i = omega (arith, length_big n (operand e i)) in
       let q : i + (1 + n) ≡ next e i = omega arith in

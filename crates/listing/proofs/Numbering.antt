@@ -1,4 +1,5 @@
 -- A word read as a number, for the proofs of the functions of `numbers`. Assumes nothing.
+use Rattle.std.specs.Prelude.{Ok, Err}
 use Prim.Native.Nat.{ℕ, ◌+◌, ◌-◌, ◌^◌, ◌≤◌, ◌<◌}
 use native.Mathlib.Omega.{arith}
 use mathlib.Core.Bool.{Bool, true, false, cond}
@@ -10,7 +11,7 @@ use borrow.Author.Tests.{lt-ltb, le-leb, lt-leb, eq-eqb, ne_eqb, leb-true, ltb-t
 use Rattle.logic.proofs.Promises.{no_true}
 use Rattle.hexadecimal.specs.Hex.{is_between, digit_of}
 use Rattle.line_words.specs.Numbers.{is_digit, number_in}
-use Rattle.line_words.specs.declared.numbers.Number.TheVariants.{Value, Large}
+use Rattle.line_words.specs.declared.numbers.NumberError.TheVariants.{Large}
 use Rattle.listing.specs.Numbers.{negated, signed_number, is_width}
 
 -- ---- a decimal digit is one of the characters from `0` to `9`
@@ -40,18 +41,18 @@ digit_range c e = in_range c (is_between 48 57 c) refl (ltb-true (digit_of c) 10
 
 -- ---- `negative`
 module _ (d : ℕ) where
-  pub negated_zero : d ≡ 0 → Large ≡ negated (Value d)
+  pub negated_zero : d ≡ 0 → Err Large ≡ negated (Ok d)
   unfolding negated
   negated_zero h = rw (eq-eqb d 0 h)
 
   module _ (some : d ≡ 0 → ⊥) where
-    pub negated_value : d ≤ 2 ^ 63 → Value (18446744073709551615 - d + 1) ≡ negated (Value d)
+    pub negated_value : d ≤ 2 ^ 63 → Ok (18446744073709551615 - d + 1) ≡ negated (Ok d)
     unfolding negated
     negated_value h =
         let e : 18446744073709551615 - d + 1 ≡ 2 ^ 64 - d = omega arith in
-        rw (ne_eqb d 0 some, le-leb d (2 ^ 63) h) (ap Value e)
+        rw (ne_eqb d 0 some, le-leb d (2 ^ 63) h) (ap (λ (x : ℕ). Ok x) e)
 
-    pub negated_large : 2 ^ 63 < d → Large ≡ negated (Value d)
+    pub negated_large : 2 ^ 63 < d → Err Large ≡ negated (Ok d)
     unfolding negated
     negated_large h = rw (ne_eqb d 0 some, lt-leb d (2 ^ 63) h)
 

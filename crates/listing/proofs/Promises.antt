@@ -4,6 +4,7 @@ use mathlib.Core.List.{List, [], ◌∷◌, ◌++◌}
 use mathlib.Core.Path.{◌≡◌, refl, sym, ap, ◌∙◌}
 use Prim.Native.Nat.{ℕ, ◌+◌, ◌-◌, ◌^◌, ◌≤◌, ◌<◌}
 use lib.Dec.{T}
+use Rattle.std.proofs.Common.{Ok}
 use lib.ListN.{length, take, drop, replicate}
 use Rattle.hexadecimal.specs.Hex.{is_blank}
 use Rattle.text_buffer.specs.Decimal.{decimal}
@@ -14,13 +15,11 @@ use Rattle.isa.specs.Decode.{operand_bytes, next}
 use Rattle.isa.specs.Starts.{starts}
 use Rattle.instruction_text.specs.Text.{text_of, text_at, is_instruction}
 use Rattle.instruction_text.proofs.Promises.{instructed, row_parts}
-use Rattle.listing.specs.Line.{operands_of, read_line, line_bytes}
+use Rattle.listing.specs.Line.{instruction, operands_of, read_line, line_bytes}
 use Rattle.listing.specs.Meant.{is_heading, meant}
 use Rattle.listing.specs.Listing.{listing, all_instructions, bytes, fault, read_lines, lines_of, listing_text, read_text}
-use Rattle.listing.specs.Whole.{outcome}
+use Rattle.listing.specs.Whole.{wrong_line, outcome}
 use Rattle.listing.specs.declared.reading.LineFault.{LineFault}
-use Rattle.listing.specs.declared.reading.ListingLine.TheVariants.{Instruction}
-use Rattle.listing.specs.declared.whole.ListingRead.TheVariants.{Bytes, Wrong}
 use Rattle.listing.proofs.Behind as behind
 use Rattle.listing.proofs.Inverse as inverse
 use Rattle.listing.proofs.Plain as plain
@@ -30,7 +29,7 @@ pub use Rattle.listing.proofs.Behind.{Feedless}
 
 -- the text of a supported instruction with an operand that fits is read back as it
 pub text_read_back : (at op v : ℕ) → at < 2 ^ 64 → kind_unsupported < kind (class_of op) → v < 256 ^ operands_of op
-    → read_line at (text_of at op (operands_of op) v) ≡ Instruction op (operands_of op) v
+    → read_line at (text_of at op (operands_of op) v) ≡ instruction op (operands_of op) v
 unfolding text_of is_blank
 text_read_back at op v h s f =
     ap (read_line at) (sym (row_parts at op (operands_of op) v (10 ∷ []))) ∙ inverse.line_back (10 ∷ []) tt op (operands_of op) v (plain.good_name op s) refl (inverse.word_low op v f) f at h
@@ -38,7 +37,7 @@ text_read_back at op v h s f =
 -- and so is the line a, which is that text without its line feed, with n spaces and a comment behind it
 pub row_read_back : (at op v : ℕ) → at < 2 ^ 64 → kind_unsupported < kind (class_of op) → v < 256 ^ operands_of op
     → (a : List ℕ) → a ++ (10 ∷ []) ≡ text_of at op (operands_of op) v
-    → (n : ℕ) (t : List ℕ) → meant at (a ++ (replicate n 32 ++ (35 ∷ t))) ≡ Instruction op (operands_of op) v
+    → (n : ℕ) (t : List ℕ) → meant at (a ++ (replicate n 32 ++ (35 ∷ t))) ≡ instruction op (operands_of op) v
 row_read_back at op v h s f = inverse.comment_back op (operands_of op) v (plain.good_name op s) refl (inverse.word_low op v f) f at h
 
 -- `AllBytes` holds of every slice of bytes that is lent: the contract of `encoding::bytes_known`, `lent_bytes` on the
@@ -77,13 +76,13 @@ pub row_then : (e : List ℕ) → AllBytes e → (k : ℕ) → k < 2 ^ 64 → is
 row_then e low k h i = behind.row_then e low k h (instructed e k i)
 
 -- ---- what `read_listing` answers and leaves where the text has no fault, and the buffer has room
-pub text_outcome : (t o b : List ℕ) → read_text t ≡ bytes b → length b ≤ length o → outcome t o ≡ record { answer = Bytes (length b); left = written_at o 0 b }
+pub text_outcome : (t o b : List ℕ) → read_text t ≡ bytes b → length b ≤ length o → outcome t o ≡ record { answer = Ok (length b); left = written_at o 0 b }
 text_outcome = outcomes.text_right
 
 -- where it answers with a number of bytes, those in the buffer are the text's; where it names a line with a fault, the
 -- text has it there first
-pub answered_bytes : (t o : List ℕ) (k : ℕ) → (outcome t o).answer ≡ Bytes k → k ≤ length o → read_text t ≡ bytes (take k (outcome t o).left)
+pub answered_bytes : (t o : List ℕ) (k : ℕ) → (outcome t o).answer ≡ Ok k → k ≤ length o → read_text t ≡ bytes (take k (outcome t o).left)
 answered_bytes = outcomes.told_right
 
-pub answered_wrong : (t o : List ℕ) (n : ℕ) (f : LineFault) (c : ℕ) → (outcome t o).answer ≡ Wrong n f c → read_text t ≡ fault n f c
+pub answered_wrong : (t o : List ℕ) (n : ℕ) (f : LineFault) (c : ℕ) → (outcome t o).answer ≡ wrong_line n f c → read_text t ≡ fault n f c
 answered_wrong = outcomes.told_wrong

@@ -8,18 +8,17 @@ use Rattle.instruction_text.specs.Names.{names, opcode_of}
 use Rattle.line_words.specs.Words.{is_in_word, first_word, place_from}
 use Rattle.line_words.specs.Numbers.{is_digit, value_from, number_in}
 use Rattle.listing.specs.Numbers.{negated, signed_number}
-use Rattle.listing.specs.Line.{line_ended, from_operand, from_name, read_line}
+use Rattle.listing.specs.Line.{nothing, instruction, wrong, line_ended, from_operand, from_name, read_line}
 use Rattle.listing.specs.Meant.{headings, is_heading, before_comment, meant}
 use Rattle.listing.specs.Listing.{bytes, fault, read_lines, lines_of, read_text}
 use Rattle.listing.specs.declared.reading.LineFault.TheVariants.{WrongOffset, NoName, UnknownName, NoOperand, NotNumber, TooLarge, Trailing}
-use Rattle.listing.specs.declared.reading.ListingLine.TheVariants.{Nothing, Instruction, Wrong}
 
 -- lines of the instruction at offset 2
 lines :
     map (λ s. read_line 2 (bytes_of s))
     (" 2 const8 5" ∷ "const64 -1\n" ∷ "\tadd " ∷ "const64 18446744073709551615" ∷ "" ∷ "3 add" ∷ "2" ∷ "2 ad" ∷ "float" ∷ "ext" ∷ "ext 8x" ∷ "ext 256" ∷ "ext -1" ∷ "pop 1" ∷ [])
-    ≡ Instruction 0x22 1 5 ∷ Instruction 0x25 8 18446744073709551615 ∷ Instruction 0x02 0 0 ∷ Instruction 0x25 8 18446744073709551615 ∷ Nothing
-    ∷ Wrong WrongOffset 0 ∷ Wrong NoName 1 ∷ Wrong UnknownName 2 ∷ Wrong UnknownName 0 ∷ Wrong NoOperand 3 ∷ Wrong NotNumber 4 ∷ Wrong TooLarge 4 ∷ Wrong TooLarge 4 ∷ Wrong Trailing 4 ∷ []
+    ≡ instruction 0x22 1 5 ∷ instruction 0x25 8 18446744073709551615 ∷ instruction 0x02 0 0 ∷ instruction 0x25 8 18446744073709551615 ∷ nothing
+    ∷ wrong WrongOffset 0 ∷ wrong NoName 1 ∷ wrong UnknownName 2 ∷ wrong UnknownName 0 ∷ wrong NoOperand 3 ∷ wrong NotNumber 4 ∷ wrong TooLarge 4 ∷ wrong TooLarge 4 ∷ wrong Trailing 4 ∷ []
 unfolding read_line from_name from_operand line_ended first_word is_in_word is_blank digit_of is_digit number_in signed_number negated value_from opcode_of place_from names class_of opcodes
 lines = refl
 

@@ -1,12 +1,10 @@
 -- A whole listing: one line an instruction, and such lines read one after the other.
-use Rattle.std.specs.Prelude.{ℕ, ◌+◌, ◌-◌, ◌<◌, ◌≤◌, Bool, true, cond, ◌&&◌, List, [], ◌∷◌, ◌++◌, map, ◌≡◌, eqb, length, take, drop}
+use Rattle.std.specs.Prelude.{ℕ, ◌+◌, ◌-◌, ◌<◌, ◌≤◌, Bool, true, cond, ◌&&◌, List, [], ◌∷◌, ◌++◌, map, ◌≡◌, eqb, length, take, drop, None, Some, Ok, Err}
 use Rattle.isa.specs.Starts.{starts_from}
 use Rattle.instruction_text.specs.Text.{text_at, is_instruction}
-use Rattle.listing.specs.Line.{line_bytes}
+use Rattle.listing.specs.Line.{ListingLine, line_bytes}
 use Rattle.listing.specs.Meant.{meant}
 use Rattle.listing.specs.declared.reading.LineFault.{LineFault}
-use Rattle.listing.specs.declared.reading.ListingLine.{ListingLine}
-use Rattle.listing.specs.declared.reading.ListingLine.TheVariants.{Nothing, Instruction, Wrong}
 
 -- the lines of the expression e from offset i on
 unfoldable pub listing_from : List ℕ → ℕ → List (List ℕ)
@@ -30,9 +28,9 @@ after_bytes l (bytes m) = bytes (l ++ m)
 after_bytes l (fault n f c) = fault n f c
 
 abbrev pub then_lines : ℕ → ListingLine → (List ℕ → Lines) → Lines
-then_lines n Nothing f = f []
-then_lines n (Instruction op count v) f = f (line_bytes (Instruction op count v))
-then_lines n (Wrong w c) f = fault n w c
+then_lines n (Ok None) f = f []
+then_lines n (Ok (Some i)) f = f (line_bytes (Ok (Some i)))
+then_lines n (Err w) f = fault n w.reason w.column
 
 -- the lines of an expression from line n and offset i on
 unfoldable pub read_lines : ℕ → ℕ → List (List ℕ) → Lines

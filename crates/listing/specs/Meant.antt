@@ -3,9 +3,7 @@ use Rattle.std.specs.Prelude.{ℕ, Bool, false, cond, not, ◌||◌, List, [], �
 use Prim.Native.String.{String}
 use Rattle.text_buffer.specs.Text.{bytes_of}
 use Rattle.line_words.specs.Words.{leading, same_bytes}
-use Rattle.listing.specs.Line.{read_line}
-use Rattle.listing.specs.declared.reading.ListingLine.{ListingLine}
-use Rattle.listing.specs.declared.reading.ListingLine.TheVariants.{Nothing}
+use Rattle.listing.specs.Line.{ListingLine, nothing, read_line}
 
 -- how the lines without an instruction begin: two of GDB's, and those that `verify` prints
 unfoldable pub headings : List String
@@ -35,4 +33,4 @@ before_comment l = before 35 (before 10 l)
 
 -- what a line says where the offset of the next instruction is `at`
 unfoldable pub meant : ℕ → List ℕ → ListingLine
-meant at l = cond (is_heading l) Nothing (read_line at (before_comment l))
+meant at l = cond (is_heading l) nothing (read_line at (before_comment l))

@@ -23,6 +23,7 @@ fn scope_from(text: &[u8], at: usize) -> usize
     ensures { IsScopeFrom text.now at result }
 {
     let mut start = at;
+    // A place is counted by hand: it moves by a whole line, and is the answer.
     while start < text.len() {
         let end = line_end(text, start);
         if is_scope(&text[start..end]) {

@@ -1,13 +1,15 @@
 // A line of a listing, read: an offset, which may be left out, a name, and an operand if the instruction has one.
-ghost use Rattle.std.specs.Prelude.{◌≡◌, ℕ, ◌+◌, ◌≤◌, T, length, drop};
+ghost use Rattle.std.specs.Prelude.{◌≡◌, ◌≤◌, T, length, drop, Some, Ok};
 ghost use Rattle.listing.specs.Numbers.{is_width};
-ghost use Rattle.listing.specs.Line.{line_ended, from_operand, from_name, read_line, read_answer, read_left};
+ghost use Rattle.listing.specs.Line.{wrong, line_ended, from_operand, from_name, read_line, read_answer, read_left, taken, read_end};
 
 use crate::numbers::{fits, signed};
 use encoding::put_big;
 use instruction_text::names::opcode_of;
+use isa::Kind;
 use line_words::next_word;
-use line_words::numbers::{Number, is_digit, unsigned};
+use line_words::numbers::{Base, NumberError, is_digit, unsigned};
+use text_buffer::TextBuffer;
 
 // Why a line is refused.
 #[derive(Clone, Copy)]
@@ -21,37 +23,63 @@ pub enum LineFault {
     Trailing,
 }
 
-// What a line says: nothing, in an empty one; an opcode with its number of operand bytes and its
-// operand; or a fault, at a column counted from 0.
+// A fault, at a column counted from 0.
 #[derive(Clone, Copy)]
-pub enum ListingLine {
-    Nothing,
-    Instruction(u8, usize, u64),
-    Wrong(LineFault, usize),
+pub struct Fault {
+    pub reason: LineFault,
+    pub column: usize,
 }
 
-// So many bytes were written; or the buffer has no room for them; or a fault, at a column.
+// An opcode with its number of operand bytes and its operand.
 #[derive(Clone, Copy)]
-pub enum LineRead {
-    Bytes(usize),
+pub struct Instruction {
+    pub opcode: u8,
+    pub count: usize,
+    pub operand: u64,
+}
+
+// Why no bytes of a line were written: the buffer has no room for them; or the line has a fault.
+#[derive(Clone, Copy)]
+pub enum Unread {
     NoRoom,
-    Wrong(LineFault, usize),
+    Wrong(Fault),
+}
+
+fn wrong(reason: LineFault, column: usize) -> Result<Option<Instruction>, Fault>
+    ensures { result ≡ wrong reason column }
+{
+    Err(Fault { reason, column })
 }
 
 // The instruction, if nothing follows from column `at` on.
-fn ends(line: &[u8], at: usize, opcode: u8, count: usize, operand: u64) -> ListingLine
+fn ends(
+    line: &[u8],
+    at: usize,
+    opcode: u8,
+    count: usize,
+    operand: u64,
+) -> Result<Option<Instruction>, Fault>
     requires { at ≤ length line.now }
     ensures { result ≡ line_ended opcode count operand at (drop at line.now) }
 {
     let word = next_word(line, at);
     let start = word.start;
     if start == word.end {
-        return ListingLine::Instruction(opcode, count, operand);
+        return Ok(Some(Instruction {
+            opcode,
+            count,
+            operand,
+        }));
     }
-    ListingLine::Wrong(LineFault::Trailing, start)
+    wrong(LineFault::Trailing, start)
 }
 
-fn read_operand(line: &[u8], at: usize, opcode: u8, count: usize) -> ListingLine
+fn read_operand(
+    line: &[u8],
+    at: usize,
+    opcode: u8,
+    count: usize,
+) -> Result<Option<Instruction>, Fault>
     requires at { at ≤ length line.now }
     requires width { T (is_width count) }
     ensures { result ≡ from_operand opcode count at (drop at line.now) }
@@ -60,21 +88,21 @@ fn read_operand(line: &[u8], at: usize, opcode: u8, count: usize) -> ListingLine
     let start = word.start;
     let end = word.end;
     if start == end {
-        return ListingLine::Wrong(LineFault::NoOperand, start);
+        return wrong(LineFault::NoOperand, start);
     }
     match signed(&line[start..end]) {
-        Number::Not => ListingLine::Wrong(LineFault::NotNumber, start),
-        Number::Large => ListingLine::Wrong(LineFault::TooLarge, start),
-        Number::Value(v) => {
+        Err(NumberError::Not) => wrong(LineFault::NotNumber, start),
+        Err(NumberError::Large) => wrong(LineFault::TooLarge, start),
+        Ok(v) => {
             if fits(v, count) {
                 return ends(line, end, opcode, count, v);
             }
-            ListingLine::Wrong(LineFault::TooLarge, start)
+            wrong(LineFault::TooLarge, start)
         }
     }
 }
 
-fn read_name(line: &[u8], at: usize) -> ListingLine
+fn read_name(line: &[u8], at: usize) -> Result<Option<Instruction>, Fault>
     requires { at ≤ length line.now }
     ensures { result ≡ from_name at (drop at line.now) }
 {
@@ -82,69 +110,81 @@ fn read_name(line: &[u8], at: usize) -> ListingLine
     let start = word.start;
     let end = word.end;
     if start == end {
-        return ListingLine::Wrong(LineFault::NoName, start);
+        return wrong(LineFault::NoName, start);
     }
-    let opcode = opcode_of(&line[start..end]) as u8;
+    let Some(opcode) = opcode_of(&line[start..end]) else {
+        return wrong(LineFault::UnknownName, start);
+    };
     let row = isa::look_up(opcode);
-    if row.kind <= isa::UNSUPPORTED {
-        return ListingLine::Wrong(LineFault::UnknownName, start);
-    }
     let count = row.operands as usize;
-    if count == 0 {
-        return ends(line, end, opcode, 0, 0);
+    match row.kind {
+        Kind::Unknown | Kind::Unsupported => wrong(LineFault::UnknownName, start),
+        _ => {
+            if count == 0 {
+                return ends(line, end, opcode, 0, 0);
+            }
+            read_operand(line, end, opcode, count)
+        }
     }
-    read_operand(line, end, opcode, count)
 }
 
 // What the line of the instruction at offset `at` says.
-pub fn read_line(line: &[u8], at: usize) -> ListingLine
+pub fn read_line(line: &[u8], at: usize) -> Result<Option<Instruction>, Fault>
     ensures { result ≡ read_line at line.now }
 {
     let word = next_word(line, 0);
     let start = word.start;
     let end = word.end;
     if start == end {
-        return ListingLine::Nothing;
+        return Ok(None);
     }
-    if !is_digit(line[start], 10) {
+    if !is_digit(line[start], Base::Decimal) {
         return read_name(line, 0);
     }
-    match unsigned(&line[start..end], 10) {
-        Number::Not => ListingLine::Wrong(LineFault::WrongOffset, start),
-        Number::Large => ListingLine::Wrong(LineFault::WrongOffset, start),
-        Number::Value(v) => {
+    match unsigned(&line[start..end], Base::Decimal) {
+        Err(_) => wrong(LineFault::WrongOffset, start),
+        Ok(v) => {
             if v == at as u64 {
                 return read_name(line, end);
             }
-            ListingLine::Wrong(LineFault::WrongOffset, start)
+            wrong(LineFault::WrongOffset, start)
         }
     }
 }
 
-fn store(out: &mut [u8], at: usize, opcode: u8, count: usize, operand: u64) -> LineRead
-    ensures answer { result ≡ read_answer (ListingLine.Instruction opcode count operand) at out.old }
-    ensures bytes { out.new ≡ read_left (ListingLine.Instruction opcode count operand) at out.old }
+// Appends the bytes of an instruction. They stay in the buffer that was lent (`lent`), where its lender finds them.
+fn store(code: &mut TextBuffer, instruction: Instruction) -> Result<(), Unread>
+    ensures answer { result ≡ taken (read_answer (Ok (Some instruction)) code.old.end code.old.bytes.now) }
+    ensures end { code.new.end ≡ read_end (Ok (Some instruction)) code.old.end code.old.bytes.now }
+    ensures bytes { code.new.bytes.now ≡ read_left (Ok (Some instruction)) code.old.end code.old.bytes.now }
+    ensures within { code.old.end ≤ length code.old.bytes.now → code.new.end ≤ length code.new.bytes.now }
+    ensures lent { code.new.bytes.ghost_name ≡ code.old.bytes.ghost_name }
 {
-    if out.len() < at {
-        return LineRead::NoRoom;
+    let at = code.end;
+    let count = instruction.count;
+    if code.bytes.len() < at {
+        return Err(Unread::NoRoom);
     }
-    if out.len() - at <= count {
-        return LineRead::NoRoom;
+    if code.bytes.len() - at <= count {
+        return Err(Unread::NoRoom);
     }
-    out[at] = opcode;
-    put_big(out, at + 1, operand, count);
-    LineRead::Bytes(count + 1)
+    code.bytes[at] = instruction.opcode;
+    put_big(code.bytes, at + 1, instruction.operand, count);
+    code.end = at + 1 + count;
+    Ok(())
 }
 
-// Puts the bytes of the line of the instruction at offset `at` there.
-pub fn read_instruction(line: &[u8], out: &mut [u8], at: usize) -> LineRead
-    ensures answer { result ≡ read_answer (read_line at line.now) at out.old }
-    ensures bytes { out.new ≡ read_left (read_line at line.now) at out.old }
-    ensures within { (n : ℕ) → result ≡ LineRead.Bytes n → at ≤ length out.old → at + n ≤ length out.new }
+// Appends the bytes of the line of the instruction whose offset is the end of the bytes so far.
+pub fn read_instruction(line: &[u8], code: &mut TextBuffer) -> Result<(), Unread>
+    ensures answer { result ≡ taken (read_answer (read_line code.old.end line.now) code.old.end code.old.bytes.now) }
+    ensures end { code.new.end ≡ read_end (read_line code.old.end line.now) code.old.end code.old.bytes.now }
+    ensures bytes { code.new.bytes.now ≡ read_left (read_line code.old.end line.now) code.old.end code.old.bytes.now }
+    ensures within { code.old.end ≤ length code.old.bytes.now → code.new.end ≤ length code.new.bytes.now }
+    ensures lent { code.new.bytes.ghost_name ≡ code.old.bytes.ghost_name }
 {
-    match read_line(line, at) {
-        ListingLine::Nothing => LineRead::Bytes(0),
-        ListingLine::Wrong(fault, column) => LineRead::Wrong(fault, column),
-        ListingLine::Instruction(opcode, count, operand) => store(out, at, opcode, count, operand),
+    match read_line(line, code.end) {
+        Ok(Some(instruction)) => store(code, instruction),
+        Ok(None) => Ok(()),
+        Err(fault) => Err(Unread::Wrong(fault)),
     }
 }

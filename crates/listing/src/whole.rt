@@ -1,67 +1,44 @@
 // A whole listing, read: lines with an instruction, headings, and comments.
-ghost use Rattle.std.specs.Prelude.{◌≡◌, ℕ, ◌+◌, ◌<◌, ◌≤◌, length, take};
-ghost use Rattle.line_words.specs.Words.{leading};
-ghost use Rattle.listing.specs.Line.{read_answer, read_left};
+ghost use Rattle.std.specs.Prelude.{◌≡◌, ◌<◌, ◌≤◌, length, take, take_while, IfOk};
+ghost use Rattle.listing.specs.Line.{read_answer, read_left, taken, read_end};
 ghost use Rattle.listing.specs.Meant.{is_not, begins, is_heading, before_comment, meant};
 ghost use Rattle.listing.specs.Listing.{IsLine};
 ghost use Rattle.listing.specs.Whole.{outcome};
 
-use crate::reading::{LineFault, LineRead, read_instruction};
-use line_words::is_same;
+use crate::reading::{Unread, read_instruction};
+use text_buffer::TextBuffer;
 
-// So many bytes were written; or the buffer has no room for those of a line; or a line has a fault, at
-// a column. Lines are counted from 1, columns from 0.
+// The first line that cannot be read, counted from 1, and why.
 #[derive(Clone, Copy)]
-pub enum ListingRead {
-    Bytes(usize),
-    NoRoom(usize),
-    Wrong(usize, LineFault, usize),
+pub struct ListingFault {
+    pub line: usize,
+    pub why: Unread,
 }
 
 // How many characters stand before the first `c`.
 fn before(text: &[u8], c: u8) -> usize
-    ensures { (result ≡ leading (is_not c) text.now) × (result ≤ length text.now) }
+    ensures { result ≡ length (take_while (is_not c) text.now) }
 {
-    let mut n = 0;
-    while n < text.len() {
-        if text[n] == c {
-            return n;
-        }
-        n += 1;
-    }
-    n
+    text.iter().take_while(|x| **x != c).count()
 }
 
 pub(crate) fn begins_with(line: &[u8], word: &[u8]) -> bool
     ensures { result ≡ begins word.now line.now }
 {
-    let n = word.len();
-    if line.len() < n {
-        return false;
-    }
-    is_same(&line[0..n], word)
+    line.starts_with(word)
 }
 
 // GDB prints two lines before the instructions, and `verify` an answer before them, and notes and the bytes behind.
+#[tactic(auto, unfolding(crate::specs::Meant::is_heading, crate::specs::Meant::headings))]
 fn is_heading(line: &[u8]) -> bool
     ensures { result ≡ is_heading line.now }
 {
-    if begins_with(line, b"Scope:") {
-        return true;
-    }
-    if begins_with(line, b"Reg mask:") {
-        return true;
-    }
-    if begins_with(line, b"accepted: ") {
-        return true;
-    }
-    if begins_with(line, b"refused ") {
-        return true;
-    }
-    if begins_with(line, b"note: ") {
-        return true;
-    }
-    begins_with(line, b"bytes ")
+    begins_with(line, b"Scope:")
+        || begins_with(line, b"Reg mask:")
+        || begins_with(line, b"accepted: ")
+        || begins_with(line, b"refused ")
+        || begins_with(line, b"note: ")
+        || begins_with(line, b"bytes ")
 }
 
 // The length of a line without its line feed and its comment.
@@ -72,21 +49,23 @@ fn before_comment(line: &[u8]) -> usize
     before(&line[0..n], b'#')
 }
 
-// Puts the bytes of a line at `at`, the offset of the next instruction.
-fn take_line(line: &[u8], out: &mut [u8], at: usize) -> LineRead
-    ensures answer { result ≡ read_answer (meant at line.now) at out.old }
-    ensures bytes { out.new ≡ read_left (meant at line.now) at out.old }
-    ensures within { (n : ℕ) → result ≡ LineRead.Bytes n → at ≤ length out.old → at + n ≤ length out.new }
+// Appends the bytes of a line of the instruction whose offset is the end of the bytes so far.
+fn take_line(line: &[u8], code: &mut TextBuffer) -> Result<(), Unread>
+    ensures answer { result ≡ taken (read_answer (meant code.old.end line.now) code.old.end code.old.bytes.now) }
+    ensures end { code.new.end ≡ read_end (meant code.old.end line.now) code.old.end code.old.bytes.now }
+    ensures bytes { code.new.bytes.now ≡ read_left (meant code.old.end line.now) code.old.end code.old.bytes.now }
+    ensures within { code.old.end ≤ length code.old.bytes.now → code.new.end ≤ length code.new.bytes.now }
+    ensures lent { code.new.bytes.ghost_name ≡ code.old.bytes.ghost_name }
 {
     if is_heading(line) {
-        return LineRead::Bytes(0);
+        return Ok(());
     }
     let n = before_comment(line);
-    read_instruction(&line[0..n], out, at)
+    read_instruction(&line[0..n], code)
 }
 
 // Where the line that starts at `start` ends, behind its line feed.
-pub(crate) fn line_end(text: &[u8], start: usize) -> usize
+pub fn line_end(text: &[u8], start: usize) -> usize
     requires { start < length text.now }
     ensures { IsLine text.now start result }
 {
@@ -98,25 +77,22 @@ pub(crate) fn line_end(text: &[u8], start: usize) -> usize
 }
 
 // Puts the bytes of a listing at the start of `out`, up to the first line that cannot be read.
-pub fn read_listing(text: &[u8], out: &mut [u8]) -> ListingRead
+pub fn read_listing(text: &[u8], out: &mut [u8]) -> Result<usize, ListingFault>
     ensures answer { result ≡ (outcome text.now out.old).answer }
     ensures bytes { out.new ≡ (outcome text.now out.old).left }
-    ensures within { (n : ℕ) → result ≡ ListingRead.Bytes n → n ≤ length out.new }
+    ensures within { IfOk result (λ n. n ≤ length out.new) }
 {
+    let mut code = TextBuffer::new(out);
     let mut start = 0;
     let mut line = 1;
-    let mut at = 0;
+    // Places are counted by hand: they move by a whole line; `next_part` divides a text by the same ends.
     while start < text.len() {
         let end = line_end(text, start);
-        match take_line(&text[start..end], out, at) {
-            LineRead::Bytes(n) => {
-                at += n;
-                start = end;
-                line += 1;
-            }
-            LineRead::NoRoom => return ListingRead::NoRoom(line),
-            LineRead::Wrong(fault, column) => return ListingRead::Wrong(line, fault, column),
+        if let Err(why) = take_line(&text[start..end], &mut code) {
+            return Err(ListingFault { line, why });
         }
+        start = end;
+        line += 1;
     }
-    ListingRead::Bytes(at)
+    Ok(code.end)
 }

@@ -11,7 +11,7 @@ use Rattle.isa.specs.Classes.{setv, kind_end}
 use Rattle.isa.specs.Decode.{class_at, kind_at, needed, left, height_after}
 use Rattle.isa.specs.Walk.{After}
 use Rattle.sizes.specs.Sizes.{buffer_most}
-use Rattle.refusals.specs.declared.Refusal.{Refusal}
+use Rattle.refusals.specs.Refusal.{Refusal}
 use Rattle.refusals.specs.Refusal.{refusal}
 use Rattle.memory.specs.Spans.{Target, spans_refusal}
 use Rattle.memory.specs.Fetch.{InTarget, target_byte}

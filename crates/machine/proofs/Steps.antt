@@ -7,7 +7,7 @@ use Prim.Native.Nat.{ℕ, zero, suc, ◌+◌, ◌≤◌, zero-le}
 use native.Mathlib.Omega.{arith}
 use lib.Dec.{eqb}
 use borrow.Author.Tests.{ne_eqb, eqb-true, eqb-false}
-use Rattle.refusals.specs.declared.Refusal.{Refusal}
+use Rattle.refusals.specs.Refusal.{Refusal}
 use Rattle.refusals.specs.Refusal.{refusal, refusal_after}
 use Rattle.refusals.proofs.Promises.{tried_most}
 use Rattle.isa.specs.Classes.{kind_end}

@@ -1,7 +1,9 @@
 -- What a run is given, and what the machine holds (document 01, "Running").
 use Rattle.std.specs.Prelude.{List, [], ℕ, ◌-◌, length}
-use Rattle.memory.specs.Spans.{Target}
+use Rattle.memory.specs.Spans.{Target, target_of}
 use Rattle.frames.specs.Record.{Record, encode_all}
+use Rattle.machine.specs.declared.Fixed as code
+use Rattle.machine.specs.declared.Inputs.{Inputs}
 
 -- "Demand 3's machine is fed what the run is given: expression, registers, variables, spans, tracepoint number, buffer,
 -- used length, allowance."
@@ -55,3 +57,11 @@ begin g = record { offset = 0; stack = []; variables = g.variables; records = []
 -- "Free are the buffer's bytes past the used length and the records made."
 abbrev pub free_of : Given → State → ℕ
 free_of g st = length g.buffer - g.used - length (encode_all st.records)
+
+-- ---- what the code's structs stand for
+abbrev pub fixed_by : code.Fixed → Fixed
+fixed_by f = fixed f.code.now f.registers.now (target_of f.memory.target)
+
+-- inputs, variables, buffer and allowance
+abbrev pub given_by : Inputs → List ℕ → List ℕ → ℕ → Given
+given_by i v b a = given i.code.now i.registers.now v (target_of i.target) i.tracepoint b i.used a

@@ -2,7 +2,7 @@
 use Rattle.std.specs.Prelude.{true, false, List, [], ◌∷◌, ◌++◌, ℕ, zero, suc, ◌+◌, eqb}
 use Rattle.isa.specs.Classes.{kind_end}
 use Rattle.isa.specs.Decode.{kind_at}
-use Rattle.refusals.specs.declared.Refusal.{Refusal}
+use Rattle.refusals.specs.Refusal.{Refusal}
 use Rattle.refusals.specs.Numbers.{allowance_spent}
 use Rattle.refusals.specs.Refusal.{refusal_after}
 use Rattle.frames.specs.Record.{Record}

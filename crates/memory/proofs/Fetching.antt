@@ -1,11 +1,11 @@
 -- Refusal 19 and the fetch: the case laws of `holder`, `rest`, `fetch_refusal` and `fetch`, and what their answers say.
-use Rattle.std.proofs.Common.{◌≡◌, ℕ, ◌+◌, ◌-◌, ◌%◌, ◌^◌, ◌<◌, ◌≤◌, Bool, true, false, cond, not, ◌&&◌, ltb, leb, ◌≢◌, ◌⊎◌, ◌↔◌, List, [], ◌∷◌, length, get_or, take, drop, sym, refl, ap, ◌∙◌, inl, inr, ⊎_elim, arith, length-drop, length-take, get_or-drop, take_all, get_or-take, ext_get_or, le-ltb, lt-ltb, eq-eqb, ne_eqb, le-leb, leb-true}
+use Rattle.std.proofs.Common.{◌≡◌, ℕ, ◌+◌, ◌-◌, ◌%◌, ◌^◌, ◌<◌, ◌≤◌, Bool, true, false, cond, not, ◌&&◌, ltb, leb, ◌≢◌, ◌⊎◌, ◌↔◌, List, [], ◌∷◌, Some, None, length, get_or, take, drop, sym, refl, ap, ◌∙◌, inl, inr, ⊎_elim, arith, length-drop, length-take, get_or-drop, take_all, get_or-take, ext_get_or, le-ltb, lt-ltb, eq-eqb, ne_eqb, le-leb, leb-true}
 use borrow.Author.Tests.{lt-leb}
 use Rattle.logic.proofs.Promises.{cases, no_true}
 use Rattle.memory.specs.Spans.{Span, Target, span_end, InSpan, span_tests, spans_refusal}
 use Rattle.memory.specs.Fetch.{holds_range, readable, fetch_refusal, whichever, bytes_from, bytes_at, fetched, InTarget, target_byte, rest_of, Within, Readable, PartOf}
 use Rattle.memory.specs.Joining.Holding.{held_at}
-use Rattle.memory.specs.declared.Held.TheVariants.{InImage, InWork, Nowhere}
+use Rattle.memory.specs.declared.Held.TheVariants.{InImage, InWork}
 use Rattle.refusals.proofs.Promises.{tried_first, tried_then}
 use Rattle.memory.proofs.Choosing.{cond_elim, zero_cases}
 use Rattle.memory.proofs.Testing.{holds_yes, holds_not, holds_true, holds_false, wrapped_in, wrapped_out}
@@ -48,17 +48,17 @@ part_byte s a k part w i h =
     rw (w.same, get_or-take k (bytes_from a s) i 0 h, get_or-drop, e)
 
 -- ---- which of the two tests held
-is_image : (s t : Bool) (x y : ℕ) {i : ℕ} → InImage i ≡ cond s (InImage x) (cond t (InWork y) Nowhere) → (s ≡ true) × (i ≡ x)
+is_image : (s t : Bool) (x y : ℕ) {i : ℕ} → Some (InImage i) ≡ cond s (Some (InImage x)) (cond t (Some (InWork y)) None) → (s ≡ true) × (i ≡ x)
 is_image true t x y p = (refl, cc)
 is_image false true x y p = absurd (let z : ◌≡◌ {A = ℕ} 0 1 = cc in omega arith)
 is_image false false x y p = absurd (let z : ◌≡◌ {A = ℕ} 0 1 = cc in omega arith)
 
-is_work : (s t : Bool) (x y : ℕ) {i : ℕ} → InWork i ≡ cond s (InImage x) (cond t (InWork y) Nowhere) → (s ≡ false) × (t ≡ true) × (i ≡ y)
+is_work : (s t : Bool) (x y : ℕ) {i : ℕ} → Some (InWork i) ≡ cond s (Some (InImage x)) (cond t (Some (InWork y)) None) → (s ≡ false) × (t ≡ true) × (i ≡ y)
 is_work true t x y p = absurd (let z : ◌≡◌ {A = ℕ} 0 1 = cc in omega arith)
 is_work false true x y p = (refl, refl, cc)
 is_work false false x y p = absurd (let z : ◌≡◌ {A = ℕ} 0 1 = cc in omega arith)
 
-is_nowhere : (s t : Bool) (x y : ℕ) → Nowhere ≡ cond s (InImage x) (cond t (InWork y) Nowhere) → (s ≡ false) × (t ≡ false)
+is_nowhere : (s t : Bool) (x y : ℕ) → None ≡ cond s (Some (InImage x)) (cond t (Some (InWork y)) None) → (s ≡ false) × (t ≡ false)
 is_nowhere true t x y p = absurd (let z : ◌≡◌ {A = ℕ} 0 1 = cc in omega arith)
 is_nowhere false true x y p = absurd (let z : ◌≡◌ {A = ℕ} 0 1 = cc in omega arith)
 is_nowhere false false x y p = (refl, refl)
@@ -77,6 +77,11 @@ module _ (t : Target) where
   pub fetch_first : spans_refusal t ≢ 0 → (a k : ℕ) → spans_refusal t ≡ fetch_refusal t a k
   unfolding spans_refusal fetch_refusal
   fetch_first h a k = sym (tried_first (span_tests t) ((ltb 0 k && not (readable t a k), 19) ∷ []) h)
+
+  -- by the number n, not 0, of 12 or 13
+  module _ {n : ℕ} (some : 1 ≤ n) (e : n ≡ spans_refusal t) (a k : ℕ) where
+    pub spans_refused : n ≡ fetch_refusal t a k
+    spans_refused = e ∙ fetch_first (λ z. omega arith) a k
 
   module _ (fine : spans_refusal t ≡ 0) (a k : ℕ) where
     fetch_then : fetch_refusal t a k ≡ cond (ltb 0 k && not (readable t a k)) 19 0
@@ -149,6 +154,10 @@ module _ (t : Target) where
     unfolding fetched
     fetched_refused n = rw (ne_eqb (fetch_refusal t a k) 0 n)
 
+    -- n is the number of the refusal
+    pub refused_none : {n : ℕ} → 1 ≤ n → n ≡ fetch_refusal t a k → fetched t a k ≡ []
+    refused_none s e = sym (fetched_refused (λ z. omega arith))
+
     fetched_image : fetch_refusal t a k ≡ 0 → holds_range t.image a k ≡ true → bytes_at k a t.image ≡ fetched t a k
     fetched_image z h = sym (lent z ∙ rw h)
 
@@ -219,18 +228,18 @@ module _ (t : Target) where
   -- ---- the span that holds an address, found by the difference w of the address and the first one of the image, or x
   -- of the working memory, modulo 2^64
   module _ (fine : spans_refusal t ≡ 0) {a w : ℕ} (e : (w + t.image.first) % 2 ^ 64 ≡ a) where
-    pub found_in_image : w < length t.image.bytes → InImage w ≡ held_at t a
+    pub found_in_image : w < length t.image.bytes → Some (InImage w) ≡ held_at t a
     unfolding held_at
     found_in_image h =
         let o = wrapped_in t.image a w ((spans_0 t).0 fine).image_fits e h in rw (o.1, ← o.0)
 
-    pub found_nowhere : w < 2 ^ 64 → length t.image.bytes ≤ w → {x : ℕ} → (x + t.work.first) % 2 ^ 64 ≡ a → x < 2 ^ 64 → length t.work.bytes ≤ x → Nowhere ≡ held_at t a
+    pub found_nowhere : w < 2 ^ 64 → length t.image.bytes ≤ w → {x : ℕ} → (x + t.work.first) % 2 ^ 64 ≡ a → x < 2 ^ 64 → length t.work.bytes ≤ x → None ≡ held_at t a
     unfolding held_at
     found_nowhere b h {x} d l s =
         rw (wrapped_out t.image a w ((spans_0 t).0 fine).image_fits e b h, wrapped_out t.work a x ((spans_0 t).0 fine).work_fits d l s)
 
   -- what the working memory holds, the image does not
-  pub found_in_work : spans_refusal t ≡ 0 → {a x : ℕ} → (x + t.work.first) % 2 ^ 64 ≡ a → x < length t.work.bytes → InWork x ≡ held_at t a
+  pub found_in_work : spans_refusal t ≡ 0 → {a x : ℕ} → (x + t.work.first) % 2 ^ 64 ≡ a → x < length t.work.bytes → Some (InWork x) ≡ held_at t a
   unfolding held_at
   found_in_work fine {a} {x} d s =
       let m = (spans_0 t).0 fine in
@@ -240,42 +249,42 @@ module _ (t : Target) where
 
   -- what the answer says
   module _ (a : ℕ) {i : ℕ} where
-    pub held_image : InImage i ≡ held_at t a → (holds_range t.image a 1 ≡ true) × (i ≡ a - t.image.first)
+    pub held_image : Some (InImage i) ≡ held_at t a → (holds_range t.image a 1 ≡ true) × (i ≡ a - t.image.first)
     unfolding held_at
     held_image = is_image (holds_range t.image a 1) (holds_range t.work a 1) (a - t.image.first) (a - t.work.first)
 
-    pub held_work : InWork i ≡ held_at t a → (holds_range t.image a 1 ≡ false) × (holds_range t.work a 1 ≡ true) × (i ≡ a - t.work.first)
+    pub held_work : Some (InWork i) ≡ held_at t a → (holds_range t.image a 1 ≡ false) × (holds_range t.work a 1 ≡ true) × (i ≡ a - t.work.first)
     unfolding held_at
     held_work = is_work (holds_range t.image a 1) (holds_range t.work a 1) (a - t.image.first) (a - t.work.first)
 
     -- and so the bytes from the address on
-    pub image_index : InImage i ≡ held_at t a → i < length t.image.bytes
+    pub image_index : Some (InImage i) ≡ held_at t a → i < length t.image.bytes
     image_index p = let o = held_image p in omega (arith, o.1, holds_true t.image a 1 o.0)
 
-    pub work_index : InWork i ≡ held_at t a → i < length t.work.bytes
+    pub work_index : Some (InWork i) ≡ held_at t a → i < length t.work.bytes
     work_index p = let o = held_work p in omega (arith, o.2, holds_true t.work a 1 o.1)
 
-    pub rest_in_image : InImage i ≡ held_at t a → take (length t.image.bytes - i) (drop i t.image.bytes) ≡ rest_of t a
+    pub rest_in_image : Some (InImage i) ≡ held_at t a → take (length t.image.bytes - i) (drop i t.image.bytes) ≡ rest_of t a
     rest_in_image p = let o = held_image p in rest_whole i t.image.bytes ∙ ap (λ (j : ℕ). drop j t.image.bytes) o.1 ∙ rest_image a o.0
 
-    pub length_in_image : InImage i ≡ held_at t a → length (rest_of t a) ≡ length t.image.bytes - i
+    pub length_in_image : Some (InImage i) ≡ held_at t a → length (rest_of t a) ≡ length t.image.bytes - i
     length_in_image p = rw (← (rest_in_image p)) (simp (length-take, length-drop) (omega arith))
 
-    pub rest_in_work : InWork i ≡ held_at t a → take (length t.work.bytes - i) (drop i t.work.bytes) ≡ rest_of t a
+    pub rest_in_work : Some (InWork i) ≡ held_at t a → take (length t.work.bytes - i) (drop i t.work.bytes) ≡ rest_of t a
     rest_in_work p = let o = held_work p in rest_whole i t.work.bytes ∙ ap (λ (j : ℕ). drop j t.work.bytes) o.2 ∙ rest_work a o.0 o.1
 
-    pub length_in_work : InWork i ≡ held_at t a → length (rest_of t a) ≡ length t.work.bytes - i
+    pub length_in_work : Some (InWork i) ≡ held_at t a → length (rest_of t a) ≡ length t.work.bytes - i
     length_in_work p = rw (← (rest_in_work p)) (simp (length-take, length-drop) (omega arith))
 
   module _ (a : ℕ) where
-    pub held_nowhere : Nowhere ≡ held_at t a → (holds_range t.image a 1 ≡ false) × (holds_range t.work a 1 ≡ false)
+    pub held_nowhere : None ≡ held_at t a → (holds_range t.image a 1 ≡ false) × (holds_range t.work a 1 ≡ false)
     unfolding held_at
     held_nowhere = is_nowhere (holds_range t.image a 1) (holds_range t.work a 1) (a - t.image.first) (a - t.work.first)
 
-    pub rest_nowhere : Nowhere ≡ held_at t a → [] ≡ rest_of t a
+    pub rest_nowhere : None ≡ held_at t a → [] ≡ rest_of t a
     rest_nowhere p = let o = held_nowhere p in rest_none a o.0 o.1
 
-    pub length_nowhere : Nowhere ≡ held_at t a → length (rest_of t a) ≡ 0
+    pub length_nowhere : None ≡ held_at t a → length (rest_of t a) ≡ 0
     length_nowhere p = rw (← (rest_nowhere p))
 
   module _ (fine : spans_refusal t ≡ 0) (a : ℕ) where
@@ -342,8 +351,8 @@ module _ (t : Target) where
       pub refusal_none : k ≤ length r → 0 ≡ fetch_refusal t a k
       refusal_none h = sym (rest_refusal k ∙ rw (← lent, le-leb k (length r) h))
 
-      pub fetch_fits : fetch_refusal t a k ≡ 0 → k ≤ length r
-      fetch_fits z = cases (length r) k (λ h. absurd (omega (arith, z, refusal_short h))) (λ h. h)
+      pub short_none : length r < k → fetched t a k ≡ []
+      short_none h = refused_none a k (omega arith) (refusal_short h)
 
       pub fetch_lends : k ≤ length r → take k r ≡ fetched t a k
       fetch_lends h = rw lent (sym (rest_fetched k (rw lent at h)))

@@ -1,10 +1,10 @@
 -- What users of `memory` may cite, each law stated in full and proved where it is named. The contracts of src/lib.rt
 -- are the rest. A range is k bytes at the address a.
-use Rattle.std.proofs.Common.{◌≡◌, ℕ, ◌+◌, ◌-◌, ◌^◌, ◌<◌, ◌≤◌, true, false, cond, leb, ◌≢◌, ◌⊎◌, ◌↔◌, List, [], length, get_or, take, sym}
+use Rattle.std.proofs.Common.{◌≡◌, ℕ, ◌+◌, ◌-◌, ◌^◌, ◌<◌, ◌≤◌, true, false, cond, leb, ◌≢◌, ◌⊎◌, ◌↔◌, List, [], Some, None, length, get_or, take, sym}
 use Rattle.memory.specs.Spans.{Span, Target, span_end, InSpan, share_address, spans_refusal, FineSpans}
 use Rattle.memory.specs.Fetch.{holds_range, readable, fetch_refusal, fetched, InTarget, target_byte, rest_of, Readable, PartOf}
 use Rattle.memory.specs.Joining.Holding.{held_at}
-use Rattle.memory.specs.declared.Held.TheVariants.{InImage, InWork, Nowhere}
+use Rattle.memory.specs.declared.Held.TheVariants.{InImage, InWork}
 use Rattle.memory.specs.FirstZero.{Sought, up_to_zero, all_of_size, cut_short, searched, FirstZero, NoneInSize, EndedBefore, Says}
 use Rattle.memory.proofs.Testing as testing
 use Rattle.memory.proofs.Spanning as spanning
@@ -94,26 +94,26 @@ module _ (t : Target) where
 
   -- ---- the span that holds an address, and the index of its byte there: what each answer says
   module _ (a : ℕ) {i : ℕ} where
-    pub held_image : InImage i ≡ held_at t a → (holds_range t.image a 1 ≡ true) × (i ≡ a - t.image.first)
+    pub held_image : Some (InImage i) ≡ held_at t a → (holds_range t.image a 1 ≡ true) × (i ≡ a - t.image.first)
     held_image = fetching.held_image t a
 
-    pub held_work : InWork i ≡ held_at t a → (holds_range t.image a 1 ≡ false) × (holds_range t.work a 1 ≡ true) × (i ≡ a - t.work.first)
+    pub held_work : Some (InWork i) ≡ held_at t a → (holds_range t.image a 1 ≡ false) × (holds_range t.work a 1 ≡ true) × (i ≡ a - t.work.first)
     held_work = fetching.held_work t a
 
-    pub image_index : InImage i ≡ held_at t a → i < length t.image.bytes
+    pub image_index : Some (InImage i) ≡ held_at t a → i < length t.image.bytes
     image_index = fetching.image_index t a
 
-    pub work_index : InWork i ≡ held_at t a → i < length t.work.bytes
+    pub work_index : Some (InWork i) ≡ held_at t a → i < length t.work.bytes
     work_index = fetching.work_index t a
 
     -- and how many bytes there are from the address on
-    pub image_rest : InImage i ≡ held_at t a → length (rest_of t a) ≡ length t.image.bytes - i
+    pub image_rest : Some (InImage i) ≡ held_at t a → length (rest_of t a) ≡ length t.image.bytes - i
     image_rest = fetching.length_in_image t a
 
-    pub work_rest : InWork i ≡ held_at t a → length (rest_of t a) ≡ length t.work.bytes - i
+    pub work_rest : Some (InWork i) ≡ held_at t a → length (rest_of t a) ≡ length t.work.bytes - i
     work_rest = fetching.length_in_work t a
 
-  pub nowhere_rest : (a : ℕ) → Nowhere ≡ held_at t a → length (rest_of t a) ≡ 0
+  pub nowhere_rest : (a : ℕ) → None ≡ held_at t a → length (rest_of t a) ≡ 0
   nowhere_rest = fetching.length_nowhere t
 
   -- ---- the bytes from an address to the end of its span, where neither 12 nor 13 is met: all that ref, trace and

@@ -1,9 +1,11 @@
 -- The search for a zero byte: what its outcome says, and the loop of `find_zero`.
-use Rattle.std.proofs.Common.{◌≡◌, ℕ, zero, suc, ◌+◌, ◌-◌, ◌<◌, ◌≤◌, Bool, true, false, eqb, ◌≢◌, List, [], ◌∷◌, length, get_or, sym, refl, ap, ◌∙◌, arith, eqb-true}
+use Rattle.std.proofs.Common.{◌≡◌, ℕ, zero, suc, ◌+◌, ◌-◌, ◌<◌, ◌≤◌, false, eqb, ◌≢◌, List, [], ◌∷◌, length, get_or, take, drop, sym, refl, ap, ◌∙◌, arith, eqb-true, eq-eqb, get_or-take, get_or-drop, length-take, length-drop}
+use Rattle.std.specs.List.{list_any}
+use Rattle.std.proofs.lemmas.List.Folds.{list_any_at}
 use borrow.Author.Tests.{eqb-false}
 use Rattle.logic.proofs.Promises.{cases, no_true}
 use Rattle.memory.specs.FirstZero.{Sought, up_to_zero, all_of_size, cut_short, past, searched, NoZero, FirstZero, Says}
-use Rattle.memory.specs.Joining.Searching.{Looked, Passed}
+use Rattle.memory.specs.Joining.Searching.{Passed}
 use Rattle.memory.proofs.Choosing.{cond_elim}
 
 -- ---- what the outcome says
@@ -60,43 +62,41 @@ module _ (size : ℕ) (l : List ℕ) where
   pub says_search : (s : Sought) → Says size l s → s ≡ searched size l
   says_search s h = one_says s (searched size l) h (search_says size l)
 
--- ---- bytes looked at, one after the other
-pub looked_none : (l : List ℕ) (a : ℕ) → Looked l a 0 false
-looked_none l a = record { none = λ e i h. omega arith; some = no_true }
-
-module _ {l : List ℕ} {a n : ℕ} {found after : Bool} (p : Looked l a n found) where
-  pub looked_zero : get_or l (a + n) 0 ≡ 0 → after ≡ true → Looked l a (n + 1) after
-  looked_zero z q = record { none = λ e. no_true (sym e ∙ q); some = λ e. (n, omega arith, z) }
-
-  pub looked_other : get_or l (a + n) 0 ≢ 0 → after ≡ found → Looked l a (n + 1) after
-  looked_other z q = record {
-    none = λ e i h. cases i n (λ lt. p.none (sym q ∙ e) i lt) (λ ge. let d : i ≡ n = omega arith in rw d z);
-    some = λ e. let s = p.some (sym q ∙ e) in (s.0, omega (arith, s.1), s.2);
-  }
+-- ---- a block without a zero
+block_none : (s : List ℕ) → list_any (λ y. eqb y 0) s ≡ false → NoZero (length s) s
+block_none s e i h z = no_true (sym e ∙ list_any_at (λ y. eqb y 0) s i 0 h (eq-eqb (get_or s i 0) 0 z))
 
 -- ---- bytes passed, of which none is zero
-pub passed_none : (l : List ℕ) (n : ℕ) → Passed l n 0
-passed_none l n = record { within = omega arith; none = λ i h. omega arith }
+pub passed_none : (l : List ℕ) → Passed l 0
+passed_none l = record { within = omega arith; none = λ i h. omega arith }
 
-module _ {l : List ℕ} {n k : ℕ} (p : Passed l n k) where
-  pub passed_turn : k < n → get_or l k 0 ≢ 0 → Passed l n (k + 1)
+module _ {l : List ℕ} {k : ℕ} (p : Passed l k) where
+  pub passed_turn : k < length l → get_or l k 0 ≢ 0 → Passed l (k + 1)
   passed_turn h z = record { within = omega arith; none = λ i s. cases i k (λ lt. p.none i lt) (λ ge. let e : i ≡ k = omega arith in rw e z) }
 
-  pub passed_block : {w : ℕ} {found : Bool} → Looked l k w found → found ≡ false → k + w ≤ n → Passed l n (k + w)
-  passed_block q f h = record {
+  pub passed_block : (v : ℕ) → list_any (λ y. eqb y 0) (take v (drop k l)) ≡ false → (m : ℕ) → m ≡ k + v → m ≤ length l → Passed l m
+  passed_block v e m q h = record {
     within = h;
-    none = λ i s. cases i k (λ lt. p.none i lt) (λ ge. let e : i ≡ k + (i - k) = omega arith in rw e (q.none f (i - k) (omega arith)));
+    none = λ i s. cases i k (λ lt. p.none i lt)
+        (λ ge. let d : k + (i - k) ≡ i = omega arith in
+        let n : i - k < length (take v (drop k l)) = simp (length-take, length-drop) (omega arith) in
+        rw (get_or-take v (drop k l) (i - k) 0 (omega arith), get_or-drop, d) at (block_none (take v (drop k l)) e (i - k) n));
   }
 
-  -- the search stops: k bytes are passed, n is the limit
+-- ---- the search stops: n is the limit, and k of the bytes below it are passed
+module _ (l : List ℕ) {n k : ℕ} (p : Passed (take n l) k) (i : n ≤ length l) where
+  before : (m : ℕ) → m ≤ k → m ≤ n → NoZero m l
+  before m h s j u z = p.none j (omega arith) (get_or-take n l j 0 (omega arith) ∙ z)
+
   module _ (size : ℕ) where
-    pub passed_size : n ≡ size → n ≤ length l → n ≤ k → all_of_size n ≡ searched size l
-    passed_size e i h = says_search size l (all_of_size n) (record { all = e; exist = omega arith; none = λ i s. p.none i (omega arith) })
+    pub passed_size : n ≡ size → n ≤ k → all_of_size n ≡ searched size l
+    passed_size e h = says_search size l (all_of_size n) (record { all = e; exist = omega arith; none = before size (omega arith) (omega arith) })
 
     pub passed_end : n < size → n ≡ length l → n ≤ k → cut_short n ≡ searched size l
-    passed_end s e h = says_search size l (cut_short n) (record { all = e; fewer = omega arith; none = λ i s. p.none i (omega arith) })
+    passed_end s e h = says_search size l (cut_short n) (record { all = e; fewer = omega arith; none = before (length l) (omega arith) (omega arith) })
 
-    pub passed_zero : k < size → k < length l → get_or l k 0 ≡ 0 → up_to_zero (k + 1) ≡ searched size l
-    passed_zero s i z =
+    pub passed_zero : n ≤ size → k < n → get_or l k 0 ≡ 0 → up_to_zero (k + 1) ≡ searched size l
+    passed_zero s h z =
         let e : k + 1 - 1 ≡ k = omega arith in
-        says_search size l (up_to_zero (k + 1)) (record { some = omega arith; zero_there = rw e z; none_before = λ i s. p.none i (omega arith); in_size = omega arith; in_bytes = omega arith })
+        says_search size l (up_to_zero (k + 1))
+        (record { some = omega arith; zero_there = rw e z; none_before = rw e (before k (omega arith) (omega arith)); in_size = omega arith; in_bytes = omega arith })

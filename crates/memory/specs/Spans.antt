@@ -2,6 +2,8 @@
 use Rattle.std.specs.Prelude.{ℕ, ◌+◌, ◌^◌, ◌<◌, ◌≤◌, min, max, Bool, List, [], ◌∷◌, length, nat_lt}
 use Rattle.refusals.specs.Numbers.{span_past_end, spans_share}
 use Rattle.refusals.specs.Tried.{tried}
+use Rattle.memory.specs.declared.Span as code_span
+use Rattle.memory.specs.declared.Target as code
 
 -- "each a first address and lent bytes"
 pub record Span : Type 0 where
@@ -19,6 +21,13 @@ span f l = record { first = f; bytes = l }
 -- by the first address and the bytes of each
 abbrev pub target : ℕ → List ℕ → ℕ → List ℕ → Target
 target f i g w = record { image = span f i; work = span g w }
+
+-- the same of the code's
+abbrev pub span_of : code_span.Span → Span
+span_of s = span s.first s.bytes.now
+
+abbrev pub target_of : code.Target → Target
+target_of t = record { image = span_of t.image; work = span_of t.work }
 
 -- first address + length
 abbrev pub span_end : Span → ℕ

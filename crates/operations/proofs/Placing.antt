@@ -13,9 +13,9 @@ use Rattle.isa.proofs.Promises.{operands_class, needed_class, left_class, held_d
 use Rattle.machine.specs.Meaning.{stack_after, offset_after}
 use Rattle.operations.specs.Joining.Here.{StepReady, on_top, Here}
 
-pub here : {rows : List (List ℕ)} {code a : List ℕ} {at h : ℕ} → StepReady rows code a at h → (k : ℕ) (c : Class) → k < 53 → class_of k ≡ c → get_or code at 0 ≡ k
-    → Here rows code a c k at h
-here {rows} {code} {a} {at} {h} p k c l q f =
+pub here : {code a : List ℕ} {at h : ℕ} → StepReady code a at h → (k : ℕ) (c : Class) → k < 53 → class_of k ≡ c → get_or code at 0 ≡ k
+    → Here code a c k at h
+here {code} {a} {at} {h} p k c l q f =
     let w : class_at code at ≡ c = ap class_of f ∙ q in
     let n = needed_class code at c w in
     record {
@@ -35,7 +35,7 @@ offset_by c e k s =
     (cond (eqb (kind c) kind_if_goto && not (eqb (get_or s 0 0) 0)) (operand e k) (next e k))
 
 -- ---- what the class gives, and the row of the opcode
-module _ {rows : List (List ℕ)} {code a : List ℕ} {c : Class} {op at h : ℕ} (p : Here rows code a c op at h) where
+module _ {code a : List ℕ} {c : Class} {op at h : ℕ} (p : Here code a c op at h) where
   class_here : class_at code at ≡ c
   class_here = ap class_of p.found ∙ p.class_is
 

@@ -1,70 +1,92 @@
 // The instructions that neither record nor set a variable by themselves, one function for each class. Each is lent the
-// cells and told the height; it says nothing of steps, allowance or records so far.
+// cells and told the place; it says nothing of steps, allowance or records so far.
 #![tactic(auto)]
 
-ghost use Rattle.std.specs.Prelude.{false, ◌≡◌, ◌+◌, ◌-◌, ◌≤◌, ◌<◌, get_or, set};
+ghost use Rattle.std.specs.Prelude.{Ok, false, ◌∷◌, ◌≡◌, ◌+◌, ◌-◌, ◌≤◌, ◌<◌, length, get_or, set};
 ghost use Rattle.sizes.specs.Sizes.{expression_most, stack_cells};
 ghost use Rattle.isa.specs.Classes.{binary, unary, ref, ext, zero_ext_of, setv, if_goto, goto, constant, reg, getv, dup, pop, swap, pick, rot, class_of, row};
 ghost use Rattle.isa.specs.Decode.{operand};
 ghost use Rattle.isa.specs.Joining.Held.{held};
-ghost use Rattle.isa.specs.Joining.Rows.{table};
-ghost use Rattle.memory.specs.Spans.{target, spans_refusal};
+ghost use Rattle.memory.specs.Spans.{target_of};
 ghost use Rattle.machine.specs.Words.{binary_word, zero_divisor, unary_word};
 ghost use Rattle.machine.specs.Meaning.{binary_done, unary_done, ext_done, zero_ext_done, ref_done, constant_done, reg_done, getv_done, setv_done, nothing_left, dup_done, swap_done, pick_done, rot_done};
 ghost use Rattle.operations.specs.Joining.Here.{Here};
-ghost use Rattle.operations.specs.Joining.Did.{DidCells};
+ghost use Rattle.operations.specs.Joining.Did.{DidCells, PutWord};
 
-use isa::{Stack, opcode};
+use isa::{Cells, Rows, Stack, opcode};
+use machine::Fixed;
+use refusals::Reason;
 
-// What an instruction leaves: the next offset, the height, the end of what is written, and 0, or 1 at an end, or a
-// refusal's number.
+// Where a run is: the offset, the height, and the end of what is written. The cells are apart from it: in a struct with
+// them the compiler would keep the height in memory.
 #[derive(Clone, Copy)]
-pub struct Next {
+pub struct Place {
     pub at: usize,
     pub height: usize,
     pub put: usize,
-    pub stop: u8,
 }
 
 // The next start, by the row of the opcode. A caller names the opcode by a literal, so that the row is known when this
-// is compiled.
-pub fn next_of(rows: &[[u8; 4]; 53], opcode: u8, at: usize) -> usize
-    requires { (rows.now ≡ table) × ((opcode < 53) × (at < expression_most)) }
+// is compiled. The sum is one of 32 bits: of 64, the compiler would keep offset and height as one vector, at up to two
+// machine instructions more a step.
+pub fn next_of(rows: &Rows, opcode: u8, at: usize) -> usize
+    requires opcode { opcode < 53 }
+    requires at { at < expression_most }
     ensures { result ≡ at + 1 + get_or (row (class_of opcode)) 0 0 }
 {
-    let row = isa::known_row(rows, opcode);
-    at + 1 + row.operands as usize
-}
-
-// The cells that the instruction needs, by the row of the opcode.
-pub fn needed_of(rows: &[[u8; 4]; 53], opcode: u8) -> usize
-    requires { (rows.now ≡ table) × (opcode < 53) }
-    ensures { result ≡ get_or (row (class_of opcode)) 1 0 }
-{
-    let row = isa::known_row(rows, opcode);
-    row.needed as usize
+    (at as u32 + 1 + u32::from(rows.known(opcode).operands)) as usize
 }
 
 // The height after the instruction, by the row of the opcode: cells needed are taken, cells left come in their place.
-pub fn height_of(rows: &[[u8; 4]; 53], opcode: u8, height: usize) -> usize
-    requires { (rows.now ≡ table) × ((opcode < 53) × ((get_or (row (class_of opcode)) 1 0 ≤ height) × (height ≤ stack_cells))) }
+pub fn height_of(rows: &Rows, opcode: u8, height: usize) -> usize
+    requires opcode { opcode < 53 }
+    requires cells { get_or (row (class_of opcode)) 1 0 ≤ height }
+    requires height { height ≤ stack_cells }
     ensures { result ≡ height - get_or (row (class_of opcode)) 1 0 + get_or (row (class_of opcode)) 2 0 }
 {
-    let row = isa::known_row(rows, opcode);
+    let row = rows.known(opcode);
     height - row.needed as usize + row.left as usize
+}
+
+// The place behind the instruction, by the row of the opcode.
+pub fn next_place(rows: &Rows, opcode: u8, place: Place) -> Place
+    requires opcode { opcode < 53 }
+    requires at { place.at < expression_most }
+    requires cells { get_or (row (class_of opcode)) 1 0 ≤ place.height }
+    requires height { place.height ≤ stack_cells }
+    ensures at { result.at ≡ place.at + 1 + get_or (row (class_of opcode)) 0 0 }
+    ensures height { result.height ≡ place.height - get_or (row (class_of opcode)) 1 0 + get_or (row (class_of opcode)) 2 0 }
+    ensures put { result.put ≡ place.put }
+{
+    Place {
+        at: next_of(rows, opcode, place.at),
+        height: height_of(rows, opcode, place.height),
+        put: place.put,
+    }
+}
+
+// Puts the word in the place of the cells that the opcode's row needs, and goes on to the next start.
+pub fn put_word(rows: &Rows, cells: &mut Cells, opcode: u8, word: u64, place: Place) -> Place
+    requires opcode { opcode < 53 }
+    requires at { place.at < expression_most }
+    requires cells { get_or (row (class_of opcode)) 1 0 ≤ place.height }
+    requires room { place.height - get_or (row (class_of opcode)) 1 0 < stack_cells }
+    requires long { length cells.old ≡ stack_cells }
+    ensures { PutWord opcode word place (held cells.old place.height) result cells.new }
+{
+    let needed = rows.known(opcode).needed as usize;
+    Place {
+        at: next_of(rows, opcode, place.at),
+        height: Stack::replace(cells, place.height, needed, word),
+        put: place.put,
+    }
 }
 
 // Whether the divisor of the operator is zero.
 fn is_zero_divisor(opcode: u8, b: u64) -> bool
     ensures { result ≡ zero_divisor opcode b }
 {
-    if b != 0 {
-        return false;
-    }
-    if opcode < opcode::DIV_SIGNED {
-        return false;
-    }
-    opcode <= opcode::REM_UNSIGNED
+    b == 0 && opcode::DIV_SIGNED <= opcode && opcode <= opcode::REM_UNSIGNED
 }
 
 fn binary_word(opcode: u8, a: u64, b: u64) -> u64
@@ -101,448 +123,213 @@ fn unary_word(opcode: u8, a: u64) -> u64
 }
 
 // The 16 binary operators.
-pub fn do_binary(
-    rows: &[[u8; 4]; 53],
-    code: &[u8],
-    cells: &mut [u64; Stack::DEPTH],
-    opcode: u8,
-    at: usize,
-    height: usize,
-    put: usize,
-) -> Next
-    requires { Here rows.now code.now cells.old binary opcode at height }
-    ensures { DidCells code.now at put (held cells.old height) (binary_done opcode (held cells.old height)) result cells.new }
+pub fn do_binary(fixed: Fixed, cells: &mut Cells, opcode: u8, place: Place) -> Result<Place, Reason>
+    requires { Here fixed.code.now cells.old binary opcode place.at place.height }
+    ensures { DidCells fixed.entry.code.now place (held cells.old place.height) (binary_done opcode (held cells.old place.height)) result cells.new }
 {
-    let next = next_of(rows, opcode, at);
-    let b = Stack::below(cells, height, 0);
-    let a = Stack::below(cells, height, 1);
+    let b = Stack::below(cells, place.height, 0);
+    let a = Stack::below(cells, place.height, 1);
     if is_zero_divisor(opcode, b) {
-        return Next {
-            at,
-            height,
-            put,
-            stop: refusals::DIVISOR_ZERO,
-        };
+        return Err(Reason::DivisorZero);
     }
     let word = binary_word(opcode, a, b);
-    let needed = needed_of(rows, opcode);
-    let after = Stack::replace(cells, height, needed, word);
-    Next {
-        at: next,
-        height: after,
-        put,
-        stop: 0,
-    }
+    Ok(put_word(fixed.rows, cells, opcode, word, place))
 }
 
 // log_not, bit_not.
-pub fn do_unary(
-    rows: &[[u8; 4]; 53],
-    code: &[u8],
-    cells: &mut [u64; Stack::DEPTH],
-    opcode: u8,
-    at: usize,
-    height: usize,
-    put: usize,
-) -> Next
-    requires { Here rows.now code.now cells.old unary opcode at height }
-    ensures { DidCells code.now at put (held cells.old height) (unary_done opcode (held cells.old height)) result cells.new }
+pub fn do_unary(fixed: Fixed, cells: &mut Cells, opcode: u8, place: Place) -> Place
+    requires { Here fixed.code.now cells.old unary opcode place.at place.height }
+    ensures { DidCells fixed.entry.code.now place (held cells.old place.height) (unary_done opcode (held cells.old place.height)) (Ok result) cells.new }
 {
-    let next = next_of(rows, opcode, at);
-    let a = Stack::below(cells, height, 0);
-    let word = unary_word(opcode, a);
-    let needed = needed_of(rows, opcode);
-    let after = Stack::replace(cells, height, needed, word);
-    Next {
-        at: next,
-        height: after,
-        put,
-        stop: 0,
-    }
+    let word = unary_word(opcode, Stack::below(cells, place.height, 0));
+    put_word(fixed.rows, cells, opcode, word, place)
 }
 
 // ext N.
-pub fn do_ext(
-    rows: &[[u8; 4]; 53],
-    code: &[u8],
-    cells: &mut [u64; Stack::DEPTH],
-    at: usize,
-    height: usize,
-    put: usize,
-) -> Next
-    requires { Here rows.now code.now cells.old ext 0x16 at height }
-    ensures { DidCells code.now at put (held cells.old height) (ext_done (operand code.now at) (held cells.old height)) result cells.new }
+pub fn do_ext(fixed: Fixed, cells: &mut Cells, place: Place) -> Place
+    requires { Here fixed.code.now cells.old ext 0x16 place.at place.height }
+    ensures { DidCells fixed.entry.code.now place (held cells.old place.height) (ext_done (operand fixed.entry.code.now place.at) (held cells.old place.height)) (Ok result) cells.new }
 {
-    let next = next_of(rows, opcode::EXT, at);
-    let n = isa::operand_at(code, at, 1);
-    let a = Stack::below(cells, height, 0);
-    let word = arithmetic::ext(a, n);
-    let needed = needed_of(rows, opcode::EXT);
-    let after = Stack::replace(cells, height, needed, word);
-    Next {
-        at: next,
-        height: after,
-        put,
-        stop: 0,
-    }
+    let bits = isa::operand_at(fixed.code, place.at, 1);
+    let word = arithmetic::ext(Stack::below(cells, place.height, 0), bits);
+    put_word(fixed.rows, cells, opcode::EXT, word, place)
 }
 
 // zero_ext N.
-pub fn do_zero_ext(
-    rows: &[[u8; 4]; 53],
-    code: &[u8],
-    cells: &mut [u64; Stack::DEPTH],
-    at: usize,
-    height: usize,
-    put: usize,
-) -> Next
-    requires { Here rows.now code.now cells.old zero_ext_of 0x2a at height }
-    ensures { DidCells code.now at put (held cells.old height) (zero_ext_done (operand code.now at) (held cells.old height)) result cells.new }
+pub fn do_zero_ext(fixed: Fixed, cells: &mut Cells, place: Place) -> Place
+    requires { Here fixed.code.now cells.old zero_ext_of 0x2a place.at place.height }
+    ensures { DidCells fixed.entry.code.now place (held cells.old place.height) (zero_ext_done (operand fixed.entry.code.now place.at) (held cells.old place.height)) (Ok result) cells.new }
 {
-    let next = next_of(rows, opcode::ZERO_EXT, at);
-    let n = isa::operand_at(code, at, 1);
-    let a = Stack::below(cells, height, 0);
-    let word = arithmetic::zero_ext(a, n);
-    let needed = needed_of(rows, opcode::ZERO_EXT);
-    let after = Stack::replace(cells, height, needed, word);
-    Next {
-        at: next,
-        height: after,
-        put,
-        stop: 0,
-    }
+    let bits = isa::operand_at(fixed.code, place.at, 1);
+    let word = arithmetic::zero_ext(Stack::below(cells, place.height, 0), bits);
+    put_word(fixed.rows, cells, opcode::ZERO_EXT, word, place)
 }
 
-// ref8 to ref64: `count` bytes at the address on top. Neither 12 nor 13 is met, so that the bytes from there to the end
-// of the span decide.
-pub fn do_ref<'a>(
-    rows: &[[u8; 4]; 53],
-    code: &[u8],
-    cells: &mut [u64; Stack::DEPTH],
-    image_first: u64,
-    image: &'a [u8],
-    work_first: u64,
-    work: &'a [u8],
+// ref8 to ref64: `count` bytes at the address on top. The bytes from there to the end of the span decide.
+pub fn do_ref(
+    fixed: Fixed,
+    cells: &mut Cells,
     opcode: u8,
     count: usize,
-    at: usize,
-    height: usize,
-    put: usize,
-) -> Next
-    requires here { Here rows.now code.now cells.old (ref count) opcode at height }
-    requires asked { (1 ≤ count) × (count ≤ 8) × (spans_refusal (target image_first image.now work_first work.now) ≡ 0) }
-    ensures { DidCells code.now at put (held cells.old height) (ref_done (target image_first image.now work_first work.now) count (held cells.old height)) result cells.new }
+    place: Place,
+) -> Result<Place, Reason>
+    requires here { Here fixed.code.now cells.old (ref count) opcode place.at place.height }
+    requires count { (1 ≤ count) × (count ≤ 8) }
+    ensures { DidCells fixed.entry.code.now place (held cells.old place.height) (ref_done (target_of fixed.entry.memory.target) count (held cells.old place.height)) result cells.new }
 {
-    let next = next_of(rows, opcode, at);
-    let address = Stack::below(cells, height, 0);
-    let rest = memory::rest(image_first, image, work_first, work, address);
+    let rest = fixed.memory.rest(Stack::below(cells, place.height, 0));
     if rest.len() < count {
-        return Next {
-            at,
-            height,
-            put,
-            stop: refusals::RANGE_NOT_READABLE,
-        };
+        return Err(Reason::RangeNotReadable);
     }
-    let word = encoding::little_endian(&rest[0..count]);
-    let needed = needed_of(rows, opcode);
-    let after = Stack::replace(cells, height, needed, word);
-    Next {
-        at: next,
-        height: after,
-        put,
-        stop: 0,
-    }
+    let word = encoding::little_endian(&rest[..count]);
+    Ok(put_word(fixed.rows, cells, opcode, word, place))
 }
 
 // const8 to const64.
-pub fn do_constant(
-    rows: &[[u8; 4]; 53],
-    code: &[u8],
-    cells: &mut [u64; Stack::DEPTH],
-    opcode: u8,
-    count: usize,
-    at: usize,
-    height: usize,
-    put: usize,
-) -> Next
-    requires { Here rows.now code.now cells.old (constant count) opcode at height }
-    ensures { DidCells code.now at put (held cells.old height) (constant_done (operand code.now at)) result cells.new }
+pub fn do_constant(fixed: Fixed, cells: &mut Cells, opcode: u8, count: usize, place: Place) -> Place
+    requires { Here fixed.code.now cells.old (constant count) opcode place.at place.height }
+    ensures { DidCells fixed.entry.code.now place (held cells.old place.height) (constant_done (operand fixed.entry.code.now place.at)) (Ok result) cells.new }
 {
-    let next = next_of(rows, opcode, at);
-    let word = isa::operand_at(code, at, count);
-    let needed = needed_of(rows, opcode);
-    let after = Stack::replace(cells, height, needed, word);
-    Next {
-        at: next,
-        height: after,
-        put,
-        stop: 0,
-    }
+    let word = isa::operand_at(fixed.code, place.at, count);
+    put_word(fixed.rows, cells, opcode, word, place)
 }
 
 // reg N.
-pub fn do_reg(
-    rows: &[[u8; 4]; 53],
-    code: &[u8],
-    cells: &mut [u64; Stack::DEPTH],
-    registers: &[u64],
-    at: usize,
-    height: usize,
-    put: usize,
-) -> Next
-    requires { Here rows.now code.now cells.old reg 0x26 at height }
-    ensures { DidCells code.now at put (held cells.old height) (reg_done registers.now (operand code.now at)) result cells.new }
+pub fn do_reg(fixed: Fixed, cells: &mut Cells, place: Place) -> Result<Place, Reason>
+    requires { Here fixed.code.now cells.old reg 0x26 place.at place.height }
+    ensures { DidCells fixed.entry.code.now place (held cells.old place.height) (reg_done fixed.entry.registers.now (operand fixed.entry.code.now place.at)) result cells.new }
 {
-    let next = next_of(rows, opcode::REG, at);
-    let n = isa::operand_at(code, at, 2) as usize;
-    if registers.len() <= n {
-        return Next {
-            at,
-            height,
-            put,
-            stop: refusals::REGISTER_NOT_LENT,
-        };
+    let number = isa::operand_at(fixed.code, place.at, 2) as usize;
+    if fixed.registers.len() <= number {
+        return Err(Reason::RegisterNotLent);
     }
-    let word = registers[n];
-    let needed = needed_of(rows, opcode::REG);
-    let after = Stack::replace(cells, height, needed, word);
-    Next {
-        at: next,
-        height: after,
-        put,
-        stop: 0,
-    }
+    let word = fixed.registers[number];
+    Ok(put_word(fixed.rows, cells, opcode::REG, word, place))
 }
 
 // getv N.
 pub fn do_getv(
-    rows: &[[u8; 4]; 53],
-    code: &[u8],
-    cells: &mut [u64; Stack::DEPTH],
+    fixed: Fixed,
+    cells: &mut Cells,
     variables: &[u64; sizes::VARIABLE_COUNT],
-    at: usize,
-    height: usize,
-    put: usize,
-) -> Next
-    requires { Here rows.now code.now cells.old getv 0x2c at height }
-    ensures { DidCells code.now at put (held cells.old height) (getv_done variables.now (operand code.now at)) result cells.new }
+    place: Place,
+) -> Place
+    requires { Here fixed.code.now cells.old getv 0x2c place.at place.height }
+    ensures { DidCells fixed.entry.code.now place (held cells.old place.height) (getv_done variables.now (operand fixed.entry.code.now place.at)) (Ok result) cells.new }
 {
-    let next = next_of(rows, opcode::GETV, at);
-    let n = isa::operand_at(code, at, 2) as usize;
-    let word = variables[n];
-    let needed = needed_of(rows, opcode::GETV);
-    let after = Stack::replace(cells, height, needed, word);
-    Next {
-        at: next,
-        height: after,
-        put,
-        stop: 0,
-    }
+    let number = isa::operand_at(fixed.code, place.at, 2) as usize;
+    let word = variables[number];
+    put_word(fixed.rows, cells, opcode::GETV, word, place)
 }
 
 // setv N: the cell stays.
 pub fn do_setv(
-    rows: &[[u8; 4]; 53],
-    code: &[u8],
-    cells: &[u64; Stack::DEPTH],
+    fixed: Fixed,
+    cells: &Cells,
     variables: &mut [u64; sizes::VARIABLE_COUNT],
-    at: usize,
-    height: usize,
-    put: usize,
-) -> Next
-    requires { Here rows.now code.now cells.now setv 0x2d at height }
-    ensures moved { DidCells code.now at put (held cells.now height) (setv_done (held cells.now height)) result cells.now }
-    ensures set { variables.new ≡ set variables.old (operand code.now at) (get_or (held cells.now height) 0 0) }
+    place: Place,
+) -> Place
+    requires { Here fixed.code.now cells.now setv 0x2d place.at place.height }
+    ensures moved { DidCells fixed.entry.code.now place (held cells.now place.height) (setv_done (held cells.now place.height)) (Ok result) cells.now }
+    ensures set { variables.new ≡ set variables.old (operand fixed.entry.code.now place.at) (get_or (held cells.now place.height) 0 0) }
 {
-    let next = next_of(rows, opcode::SETV, at);
-    let n = isa::operand_at(code, at, 2) as usize;
-    let word = Stack::below(cells, height, 0);
-    variables[n] = word;
-    let after = height_of(rows, opcode::SETV, height);
-    Next {
-        at: next,
-        height: after,
-        put,
-        stop: 0,
-    }
+    let number = isa::operand_at(fixed.code, place.at, 2) as usize;
+    variables[number] = Stack::below(cells, place.height, 0);
+    next_place(fixed.rows, opcode::SETV, place)
 }
 
 // goto.
-pub fn do_goto(
-    rows: &[[u8; 4]; 53],
-    code: &[u8],
-    cells: &[u64; Stack::DEPTH],
-    at: usize,
-    height: usize,
-    put: usize,
-) -> Next
-    requires { Here rows.now code.now cells.now goto 0x21 at height }
-    ensures { DidCells code.now at put (held cells.now height) nothing_left result cells.now }
+pub fn do_goto(fixed: Fixed, cells: &Cells, place: Place) -> Place
+    requires { Here fixed.code.now cells.now goto 0x21 place.at place.height }
+    ensures { DidCells fixed.entry.code.now place (held cells.now place.height) nothing_left (Ok result) cells.now }
 {
-    let target = isa::operand_at(code, at, 2) as usize;
-    let after = height_of(rows, opcode::GOTO, height);
-    Next {
-        at: target,
-        height: after,
-        put,
-        stop: 0,
+    let at = isa::operand_at(fixed.code, place.at, 2) as usize;
+    let height = height_of(fixed.rows, opcode::GOTO, place.height);
+    Place {
+        at,
+        height,
+        ..place
     }
 }
 
 // if_goto.
-pub fn do_if_goto(
-    rows: &[[u8; 4]; 53],
-    code: &[u8],
-    cells: &[u64; Stack::DEPTH],
-    at: usize,
-    height: usize,
-    put: usize,
-) -> Next
-    requires { Here rows.now code.now cells.now if_goto 0x20 at height }
-    ensures { DidCells code.now at put (held cells.now height) nothing_left result cells.now }
+pub fn do_if_goto(fixed: Fixed, cells: &Cells, place: Place) -> Place
+    requires { Here fixed.code.now cells.now if_goto 0x20 place.at place.height }
+    ensures { DidCells fixed.entry.code.now place (held cells.now place.height) nothing_left (Ok result) cells.now }
 {
-    let cell = Stack::below(cells, height, 0);
-    let after = height_of(rows, opcode::IF_GOTO, height);
+    let cell = Stack::below(cells, place.height, 0);
+    let height = height_of(fixed.rows, opcode::IF_GOTO, place.height);
     if cell == 0 {
-        let next = next_of(rows, opcode::IF_GOTO, at);
-        return Next {
-            at: next,
-            height: after,
-            put,
-            stop: 0,
+        let at = next_of(fixed.rows, opcode::IF_GOTO, place.at);
+        return Place {
+            at,
+            height,
+            ..place
         };
     }
-    let target = isa::operand_at(code, at, 2) as usize;
-    Next {
-        at: target,
-        height: after,
-        put,
-        stop: 0,
+    let at = isa::operand_at(fixed.code, place.at, 2) as usize;
+    Place {
+        at,
+        height,
+        ..place
     }
 }
 
 // dup.
-pub fn do_dup(
-    rows: &[[u8; 4]; 53],
-    code: &[u8],
-    cells: &mut [u64; Stack::DEPTH],
-    at: usize,
-    height: usize,
-    put: usize,
-) -> Next
-    requires { Here rows.now code.now cells.old dup 0x28 at height }
-    ensures { DidCells code.now at put (held cells.old height) (dup_done (held cells.old height)) result cells.new }
+pub fn do_dup(fixed: Fixed, cells: &mut Cells, place: Place) -> Place
+    requires { Here fixed.code.now cells.old dup 0x28 place.at place.height }
+    ensures { DidCells fixed.entry.code.now place (held cells.old place.height) (dup_done (held cells.old place.height)) (Ok result) cells.new }
 {
-    let next = next_of(rows, opcode::DUP, at);
-    let a = Stack::below(cells, height, 0);
-    let needed = needed_of(rows, opcode::DUP);
-    let lower = Stack::replace(cells, height, needed, a);
-    let after = Stack::replace(cells, lower, 0, a);
-    Next {
-        at: next,
-        height: after,
-        put,
-        stop: 0,
-    }
+    let a = Stack::below(cells, place.height, 0);
+    let lower = put_word(fixed.rows, cells, opcode::DUP, a, place);
+    let height = Stack::replace(cells, lower.height, 0, a);
+    Place { height, ..lower }
 }
 
 // pop.
-pub fn do_pop(
-    rows: &[[u8; 4]; 53],
-    code: &[u8],
-    cells: &[u64; Stack::DEPTH],
-    at: usize,
-    height: usize,
-    put: usize,
-) -> Next
-    requires { Here rows.now code.now cells.now pop 0x29 at height }
-    ensures { DidCells code.now at put (held cells.now height) nothing_left result cells.now }
+pub fn do_pop(fixed: Fixed, cells: &Cells, place: Place) -> Place
+    requires { Here fixed.code.now cells.now pop 0x29 place.at place.height }
+    ensures { DidCells fixed.entry.code.now place (held cells.now place.height) nothing_left (Ok result) cells.now }
 {
-    let next = next_of(rows, opcode::POP, at);
-    let after = height_of(rows, opcode::POP, height);
-    Next {
-        at: next,
-        height: after,
-        put,
-        stop: 0,
-    }
+    next_place(fixed.rows, opcode::POP, place)
 }
 
 // swap.
-pub fn do_swap(
-    rows: &[[u8; 4]; 53],
-    code: &[u8],
-    cells: &mut [u64; Stack::DEPTH],
-    at: usize,
-    height: usize,
-    put: usize,
-) -> Next
-    requires { Here rows.now code.now cells.old swap 0x2b at height }
-    ensures { DidCells code.now at put (held cells.old height) (swap_done (held cells.old height)) result cells.new }
+pub fn do_swap(fixed: Fixed, cells: &mut Cells, place: Place) -> Place
+    requires { Here fixed.code.now cells.old swap 0x2b place.at place.height }
+    ensures { DidCells fixed.entry.code.now place (held cells.old place.height) (swap_done (held cells.old place.height)) (Ok result) cells.new }
 {
-    let next = next_of(rows, opcode::SWAP, at);
-    let b = Stack::below(cells, height, 0);
-    let a = Stack::below(cells, height, 1);
-    let needed = needed_of(rows, opcode::SWAP);
-    let lower = Stack::replace(cells, height, needed, b);
-    let after = Stack::replace(cells, lower, 0, a);
-    Next {
-        at: next,
-        height: after,
-        put,
-        stop: 0,
-    }
+    let b = Stack::below(cells, place.height, 0);
+    let a = Stack::below(cells, place.height, 1);
+    let lower = put_word(fixed.rows, cells, opcode::SWAP, b, place);
+    let height = Stack::replace(cells, lower.height, 0, a);
+    Place { height, ..lower }
 }
 
 // pick N: N more cells than in its row are needed and left. They stay where they are, and only the copy is put.
-pub fn do_pick(
-    rows: &[[u8; 4]; 53],
-    code: &[u8],
-    cells: &mut [u64; Stack::DEPTH],
-    at: usize,
-    height: usize,
-    put: usize,
-) -> Next
-    requires { Here rows.now code.now cells.old pick 0x32 at height }
-    ensures { DidCells code.now at put (held cells.old height) (pick_done (operand code.now at) (held cells.old height)) result cells.new }
+pub fn do_pick(fixed: Fixed, cells: &mut Cells, place: Place) -> Place
+    requires { Here fixed.code.now cells.old pick 0x32 place.at place.height }
+    ensures { DidCells fixed.entry.code.now place (held cells.old place.height) (pick_done (operand fixed.entry.code.now place.at) (held cells.old place.height)) (Ok result) cells.new }
 {
-    let next = next_of(rows, opcode::PICK, at);
-    let n = isa::operand_at(code, at, 1) as usize;
-    let a = Stack::below(cells, height, n);
-    let after = Stack::replace(cells, height, 0, a);
-    Next {
-        at: next,
-        height: after,
-        put,
-        stop: 0,
+    let depth = isa::operand_at(fixed.code, place.at, 1) as usize;
+    let a = Stack::below(cells, place.height, depth);
+    Place {
+        at: next_of(fixed.rows, opcode::PICK, place.at),
+        height: Stack::replace(cells, place.height, 0, a),
+        put: place.put,
     }
 }
 
 // rot: a b c to c a b, with b on top.
-pub fn do_rot(
-    rows: &[[u8; 4]; 53],
-    code: &[u8],
-    cells: &mut [u64; Stack::DEPTH],
-    at: usize,
-    height: usize,
-    put: usize,
-) -> Next
-    requires { Here rows.now code.now cells.old rot 0x33 at height }
-    ensures { DidCells code.now at put (held cells.old height) (rot_done (held cells.old height)) result cells.new }
+pub fn do_rot(fixed: Fixed, cells: &mut Cells, place: Place) -> Place
+    requires { Here fixed.code.now cells.old rot 0x33 place.at place.height }
+    ensures { DidCells fixed.entry.code.now place (held cells.old place.height) (rot_done (held cells.old place.height)) (Ok result) cells.new }
 {
-    let next = next_of(rows, opcode::ROT, at);
-    let c = Stack::below(cells, height, 0);
-    let b = Stack::below(cells, height, 1);
-    let a = Stack::below(cells, height, 2);
-    let needed = needed_of(rows, opcode::ROT);
-    let first = Stack::replace(cells, height, needed, c);
-    let second = Stack::replace(cells, first, 0, a);
-    let after = Stack::replace(cells, second, 0, b);
-    Next {
-        at: next,
-        height: after,
-        put,
-        stop: 0,
-    }
+    let c = Stack::below(cells, place.height, 0);
+    let b = Stack::below(cells, place.height, 1);
+    let a = Stack::below(cells, place.height, 2);
+    let first = put_word(fixed.rows, cells, opcode::ROT, c, place);
+    let second = Stack::replace(cells, first.height, 0, a);
+    let height = Stack::replace(cells, second, 0, b);
+    Place { height, ..first }
 }

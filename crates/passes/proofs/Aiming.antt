@@ -15,12 +15,11 @@ use Rattle.logic.specs.Tests.{member}
 use Rattle.refusals.specs.Refusal.{refusal}
 use Rattle.isa.specs.Decode.{jumps}
 use Rattle.isa.specs.Starts.{starts, is_start}
-use Rattle.verdict.proofs.Deciding.{f_other, first_nil, first_ok, first_fault}
+use Rattle.verdict.proofs.Deciding.{f_other, first_nil, first_ok, first_fault, clear_holds}
 use Rattle.logic.proofs.Promises.{member_here, member_there}
-use Rattle.verdict.specs.Fault.{none, fault, first}
-use Rattle.verdict.specs.Pass2.{fault2, pass2}
-use Rattle.passes.specs.Joining.Tables.{Marked, jumps_among, jump_starts, JumpsNoted, aim_of}
-use Rattle.passes.specs.declared.pass2.AimEnd.TheVariants.{Fine, Refused as AimEnd-as-Refused}
+use Rattle.verdict.specs.Fault.{fault, first}
+use Rattle.verdict.specs.Pass2.{fault2, pass2, Aims}
+use Rattle.passes.specs.Joining.Tables.{Marked, jumps_among, jump_starts, JumpsNoted}
 
 -- ---- the table of marks
 -- the mark that the table has at t says whether u, which equals t, is a start
@@ -96,18 +95,14 @@ module _ {e : List ℕ} {n : ℕ} {a : List ℕ} {i : ℕ} (room : n ≤ length 
     same = sym (first_ok (fault2 e) (get_or a i 0) (drop (i + 1) (take n a)) f) ∙ rw (here h) at s.same;
   }
 
-  pub aiming_fault : {r k : ℕ} → i < n → k ≡ get_or a i 0 → r ≡ fault2 e k → r ≢ 0 → AimEnd-as-Refused (refusal r k) ≡ aim_of (pass2 e)
-  unfolding aim_of
+  pub aiming_fault : {r k : ℕ} → i < n → k ≡ get_or a i 0 → r ≡ fault2 e k → r ≢ 0 → pass2 e ≡ fault (refusal r k)
   aiming_fault {r} {k} h p q b =
       let z : fault2 e (get_or a i 0) ≡ r = ap (fault2 e) (sym p) ∙ sym q in
       let t : first (fault2 e) (drop i (take n a)) ≡ fault (refusal (fault2 e (get_or a i 0)) (get_or a i 0))
       = rw (here h) (first_fault (fault2 e) (get_or a i 0) (drop (i + 1) (take n a)) (λ y. b (sym z ∙ y))) in
-      let u : fault (refusal r k) ≡ pass2 e = rw (← z, p) (sym t ∙ s.same) in
-      ap aim_of u
+      rw (← z, p) (sym s.same ∙ t)
 
-  pub aiming_end : n ≤ i → Fine ≡ aim_of (pass2 e)
-  unfolding aim_of
+  pub aiming_end : n ≤ i → Aims e
   aiming_end h =
       let t : drop i (take n a) ≡ [] = drop_of_length-le (take n a) {i = i} (rw (length-take-le n a room) h) in
-      let u : none ≡ pass2 e = sym (first_nil (fault2 e)) ∙ rw t at s.same in
-      ap aim_of u
+      (clear_holds (fault2 e) e).0 (sym s.same ∙ rw t (first_nil (fault2 e)))

@@ -2,5 +2,4 @@
 pub mod Scanning
 pub mod Aiming
 pub mod Measuring
-pub mod Answering
 pub mod Promises

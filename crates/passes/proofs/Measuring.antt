@@ -8,21 +8,23 @@ use native.Mathlib.Omega.{arith}
 use native.Mathlib.Decide.{ℕ_discrete}
 use lib.ListN.{get_or, length, replicate, length-replicate, get_or-replicate}
 use lib.Seq.{get_or-set_same, get_or-set_other}
+use lib.Dec.{leb}
 use borrow.Author.Tests.{eq-eqb, ne_eqb, le-leb, lt-leb}
 use Rattle.logic.proofs.Promises.{cases}
 use Rattle.refusals.specs.Refusal.{refusal}
 use Rattle.isa.specs.Classes.{kind_goto, kind_if_goto, kind_end}
 use Rattle.isa.specs.Decode.{kind_at, next, operand, height_after, jumps, continues}
-use Rattle.isa.specs.Starts.{starts_from}
+use Rattle.isa.specs.Starts.{starts, starts_from}
 use Rattle.isa.specs.Walk.{one}
 use Rattle.isa.proofs.Promises.{known_low, from_end, from_next, start_in, start_next, start_zero}
 use Rattle.verdict.specs.Pass1.{Decodes}
 use Rattle.verdict.specs.Pass2.{Aims}
-use Rattle.verdict.specs.Pass3.{unreached, joined, arrive, raise, at_target, at_next, pass_on, fault3, stopped, heights0, distances0, pass3}
-use Rattle.passes.specs.Joining.Tables.{measure_of, Unmeasured, Passing, arrived, farther, Incoming, Halting, Effected, Brings, ReachedStep, Turned, AgreeFrom, Measuring}
-use Rattle.passes.specs.declared.pass3.MeasureEnd.TheVariants.{Fine, Refused as MeasureEnd-as-Refused}
+use Rattle.verdict.specs.Pass3.{unreached, joined, arrive, raise, at_target, at_next, pass_on, longer, runs_off_end, fault3, stopped, heights0, distances0, pass3}
+use Rattle.verdict.specs.Verdict.{accepted, refused, after3}
+use Rattle.passes.specs.Joining.Tables.{Carry, carried, FlowsFrom, Unmeasured, Passing, arrived, farther, Incoming, Halting, Effected, Brings, ReachedStep, Turned, AgreeFrom, Measuring}
+use Rattle.std.specs.Prelude.{Ok}
+use Rattle.passes.specs.declared.pass3.Carry as code
 use Rattle.passes.specs.declared.brought.Flow.{Flow}
-use Rattle.passes.specs.declared.pass3.Carry.{Carry}
 use Rattle.verdict.proofs.Deciding.{decodes_fits, decodes_known, aims_target, along_nil, along_skip, along_pass, along_stop, fine, continues_true, joined_first, joined_same, joined_differing, longer_end, longer_other, AtCell, arrives, raises, if_length, if_kept, replicate_at, heights0_length, heights0_zero, heights0_other, distances0_length, distances0_at}
 
 module _ (e : List ℕ) (k : ℕ) where
@@ -34,9 +36,27 @@ module _ (e : List ℕ) (k : ℕ) where
         cases (kind_at e k) kind_goto (λ r. rw (lt-leb kind_goto (kind_at e k) r))
         (λ r. rw (le-leb kind_goto (kind_at e k) r, lt-leb (kind_at e k) kind_if_goto (omega arith)))
 
+    pub target_other : jumps e k ≡ false → l ≡ at_target e k f l
+    unfolding at_target
+    target_other p = ap (λ (b : Bool). cond b (f (operand e k) l) l) (sym p)
+
+    pub target_at : (m : ℕ) → m ≡ operand e k → jumps e k ≡ true → f m l ≡ at_target e k f l
+    unfolding at_target
+    target_at m q p = ap (λ (x : ℕ). f x l) q ∙ ap (λ (b : Bool). cond b (f (operand e k) l) l) (sym p)
+
     pub target_jump : (m : ℕ) (t : List ℕ) → t ≡ f m l → m ≡ operand e k → kind_goto ≤ kind_at e k → kind_at e k ≤ kind_if_goto → t ≡ at_target e k f l
     unfolding at_target
     target_jump m t p q a b = rw (le-leb kind_goto (kind_at e k) a, le-leb (kind_at e k) kind_if_goto b) (p ∙ ap (λ (x : ℕ). f x l) q)
+
+-- ---- running on past the last byte
+module _ (e : List ℕ) (k : ℕ) where
+  pub off_goes : (x : ℕ) → x ≡ next e k → continues e k ≡ true → leb (length e) x ≡ runs_off_end e k
+  unfolding runs_off_end
+  off_goes x q p = rw (p, q) refl
+
+  pub off_halts : continues e k ≡ false → false ≡ runs_off_end e k
+  unfolding runs_off_end
+  off_halts p = rw p refl
 
 -- ---- a start of an expression for which passes 1 and 2 hold
 module _ {e : List ℕ} {k : ℕ} (p : Passing e k) where
@@ -60,9 +80,6 @@ module _ (c b h d : ℕ) where
     small = s;
     distance_is = λ r. rw (ne_eqb h unreached r) (omega (arith, q p));
   }
-
-  pub incoming_jump : {x y : ℕ} → h ≡ unreached → x ≡ c → x < 256 → y ≡ b → Incoming c b h d (record { height = x; distance = y })
-  incoming_jump p q s t = record { height_is = rw (eq-eqb h unreached p) q; small = s; distance_is = λ _. rw (eq-eqb h unreached p) t }
 
   pub incoming_both : {x y : ℕ} → h ≢ unreached → x ≡ joined c h → x < 256 → y ≡ max b d → Incoming c b h d (record { height = x; distance = y })
   incoming_both p q s t = record { height_is = rw (ne_eqb h unreached p) q; small = s; distance_is = λ _. rw (ne_eqb h unreached p) t }
@@ -120,6 +137,28 @@ stepped_end e k h d g l hs ds x p f q m = record {
   };
   brings = brings_none e k h d _ hs ds (omega arith) (omega arith);
 }
+
+-- the same, where what flows on is told by the kind
+pub stepped : (e : List ℕ) (k h d g l : ℕ) {s : Carry} {hs ds hs' ds' : List ℕ} {x : ℕ} {r : code.Carry} → x ≡ kind_at e k → Effected e k h d g l s → s.fault ≡ 0
+    → FlowsFrom x s.height s.distance s.greatest s.longest r → Brings e k h d s hs ds hs' ds' → ReachedStep e k h d g l (carried (Ok r)) hs ds hs' ds'
+unfolding longer
+stepped e k h d g l {s} p f z m t =
+    let o = f.onward z in
+    record {
+      number = sym z ∙ f.number;
+      passed = λ _. record {
+        height_is = m.height_is ∙ rw (p, o.height_is) refl;
+        distance_is = m.distance_is ∙ o.distance_is;
+        greatest_is = m.greatest_is ∙ o.greatest_is;
+        longest_is = m.longest_is ∙ rw (p, o.distance_is, o.longest_is) refl;
+      };
+      brings = record { heights_are = λ _. t.heights_are z; distances_are = λ _. t.distances_are z };
+    }
+
+-- a refusal leaves all that is lent as it was
+pub refused_step : (e : List ℕ) (k h d g l : ℕ) {r : Carry} {hs ds : List ℕ} → r.fault ≡ fault3 e k h → r.fault ≢ 0 → ReachedStep e k h d g l r hs ds hs ds
+refused_step e k h d g l p n =
+    record { number = p; passed = λ z. absurd (n z); brings = record { heights_are = λ z. absurd (n z); distances_are = λ z. absurd (n z) } }
 
 -- a start that is reached with what comes to it
 pub turned_step : {e : List ℕ} {k : ℕ} {hs ds hs' ds' : List ℕ} {h d g l : ℕ} {f : Flow} {r : Carry} → Incoming (get_or hs k 0) (get_or ds k 0) h d f → f.height ≢ unreached
@@ -306,15 +345,15 @@ module _ {e : List ℕ} {i : ℕ} {hs ds : List ℕ} {h d g l : ℕ} (s : Measur
           same = sym on ∙ rw (from_next e i n) at s.same;
         })
 
-    measuring_stop : {r : Carry} {hs' ds' : List ℕ} → ReachedStep e i x y g l r hs ds hs' ds' → r.fault ≢ 0 → MeasureEnd-as-Refused (refusal r.fault i) ≡ measure_of (pass3 one e)
-    unfolding measure_of
+    measuring_stop : {r : Carry} {hs' ds' : List ℕ} → ReachedStep e i x y g l r hs ds hs' ds' → r.fault ≢ 0 → refused (refusal r.fault i) ≡ after3 e (pass3 one e)
+    unfolding after3
     measuring_stop {r} t z =
         let f : fault3 e i (get_or s.heights i 0) ≡ r.fault = ap (fault3 e i) hx ∙ sym t.number in
         let q : stopped (refusal r.fault i) ≡ pass3 one e
         = ap (λ (m : ℕ). stopped (refusal m i)) (sym f)
         ∙ sym (along_stop one e i (starts_from e (next e i)) s.heights s.distances g l reached (λ m. z (sym f ∙ m)))
         ∙ rw (from_next e i n) at s.same in
-        ap measure_of q
+        ap (after3 e) q
 
   module _ {r : Carry} {hs' ds' : List ℕ} (t : Turned e i hs ds h d g l r hs' ds') where
     pub measuring_turn : r.fault ≡ 0 → Measuring e (next e i) hs' ds' r.height r.distance r.greatest r.longest
@@ -324,13 +363,15 @@ module _ {e : List ℕ} {i : ℕ} {hs ds : List ℕ} {h d g l : ℕ} (s : Measur
           | no p ↦ measuring_pass _ _ (s.heights_ahead.here n) (s.distances_ahead.here n) p (farther_low h (get_or ds i 0) d i (s.low i) s.near) (t.stepped p) z
         ]
 
-    pub measuring_fault : r.fault ≢ 0 → MeasureEnd-as-Refused (refusal r.fault i) ≡ measure_of (pass3 one e)
+    pub measuring_fault : r.fault ≢ 0 → refused (refusal r.fault i) ≡ after3 e (pass3 one e)
     measuring_fault z =
         elim (ℕ_discrete (arrived (get_or hs i 0) h) unreached) [
           | yes p ↦ absurd (z (t.skipped p).0.fault_is)
           | no p ↦ measuring_stop _ _ (s.heights_ahead.here n) (s.distances_ahead.here n) p (t.stepped p) z
         ]
 
-pub measuring_end : {e : List ℕ} {i : ℕ} {hs ds : List ℕ} {h d g l : ℕ} → Measuring e i hs ds h d g l → length e ≤ i → Fine g l ≡ measure_of (pass3 one e)
-unfolding measure_of
-measuring_end {e} {i} {g = g} {l = l} s n = ap measure_of (sym (along_nil one e s.heights s.distances g l) ∙ rw (from_end e i n) at s.same)
+pub measuring_end : {e : List ℕ} {i : ℕ} {hs ds : List ℕ} {h d g l : ℕ} → Measuring e i hs ds h d g l → length e ≤ i → (n : ℕ) → n ≡ length (starts e)
+    → accepted n g l ≡ after3 e (pass3 one e)
+unfolding after3
+measuring_end {e} {i} {g = g} {l = l} s h n q =
+    rw q (ap (after3 e) (sym (along_nil one e s.heights s.distances g l) ∙ rw (from_end e i h) at s.same))

@@ -12,32 +12,18 @@ use lib.ListN.{get_or, length, set, take, replicate, length-set, length-replicat
 use lib.Seq.{take-suc-set, get_or-set_same, get_or-set_other}
 use lib.Dec.{eqb}
 use borrow.Author.Tests.{eq-eqb, ne_eqb, le-leb, lt-leb}
+use Rattle.std.specs.Prelude.{Ok}
 use Rattle.logic.specs.Tests.{member}
 use Rattle.refusals.specs.Refusal.{refusal}
 use Rattle.isa.specs.Classes.{kind_goto, kind_if_goto}
-use Rattle.isa.specs.Decode.{kind_at, next, is_jump, jumps}
+use Rattle.isa.specs.Decode.{kind_at, next, jumps}
 use Rattle.isa.specs.Starts.{starts, starts_from, is_start}
 use Rattle.logic.proofs.Promises.{cases, no_true}
 use Rattle.isa.proofs.Promises.{jump_operands, from_end, from_next}
 use Rattle.verdict.specs.Fault.{fault, first}
 use Rattle.verdict.specs.Pass1.{fault1, pass1}
-use Rattle.passes.specs.Joining.Tables.{jumps_among, jump_starts, Notes, Unmarked, Scanned, noted, counted}
-use Rattle.passes.specs.declared.pass1.ScanEnd.TheVariants.{Count}
+use Rattle.passes.specs.Joining.Tables.{jumps_among, jump_starts, Unmarked, Scanned, noted, counted}
 use Rattle.verdict.proofs.Deciding.{first_nil, first_ok, first_fault, clear_holds, clear_fits, replicate_at}
-
--- ---- noting a jump
-module _ (kind : ℕ) {at n : ℕ} {a : List ℕ} where
-  pub notes_low : kind < kind_goto → Notes (is_jump kind) at n a n a
-  notes_low h = record { count_is = rw (lt-leb kind_goto kind h); table_is = rw (lt-leb kind_goto kind h) }
-
-  pub notes_high : kind_if_goto < kind → Notes (is_jump kind) at n a n a
-  notes_high h =
-      let l : kind_goto ≤ kind = omega arith in
-      record { count_is = rw (le-leb kind_goto kind l, lt-leb kind kind_if_goto h); table_is = rw (le-leb kind_goto kind l, lt-leb kind kind_if_goto h) }
-
-  pub notes_jump : kind_goto ≤ kind → kind ≤ kind_if_goto → Notes (is_jump kind) at n a (n + 1) (set a n at)
-  notes_jump l h =
-      record { count_is = rw (le-leb kind_goto kind l, le-leb kind kind_if_goto h); table_is = rw (le-leb kind_goto kind l, le-leb kind kind_if_goto h) }
 
 -- ---- the starts marked in a table
 abbrev marked : List ℕ → List Bool → List Bool
@@ -148,7 +134,7 @@ module _ {e : List ℕ} {i n j : ℕ} {m : List Bool} {a : List ℕ} (s : Scanni
   scanning_fault r h q b =
       sym s.same ∙ rw (from_next e i h) (first_fault (fault1 e) i (starts_from e (next e i)) (λ z. b (q ∙ z)) ∙ ap (λ (x : ℕ). fault (refusal x i)) (sym q))
 
-  pub scanning_end : length e ≤ 1024 → length e ≤ i → Scanned e (Count n j) m a
+  pub scanning_end : length e ≤ 1024 → length e ≤ i → Scanned e (Ok n) m j a
   unfolding jumps_among
   scanning_end l h = (
     (clear_holds (fault1 e) e).0 (sym s.same ∙ rw (from_end e i h) (first_nil (fault1 e))),

@@ -1,65 +1,66 @@
-// What jumps bring, in two tables: for each offset the height with which it is reached, and the most instructions
-// before it.
-ghost use Rattle.std.specs.Prelude.{◌≡◌, ◌<◌, max, length};
-ghost use Rattle.verdict.specs.Pass3.{joined, arrive, raise};
+// What jumps bring: for each offset the height with which it is reached, and the most instructions before it.
+ghost use Rattle.std.specs.Prelude.{◌≡◌, ◌<◌, get_or, length, replicate};
+ghost use Rattle.verdict.specs.Pass3.{unreached, joined, arrive, raise};
 
 // The marks, as wide as a height is in the code.
 pub const UNREACHED: usize = verdict::UNREACHED as usize;
 
 pub const DIFFERING: usize = verdict::DIFFERING as usize;
 
-// What comes to a start: its height, or a mark, and the most instructions before it.
-#[derive(Drop)]
+// What comes to a start: its height, or a mark as in the table, and the most instructions before it.
+#[derive(Clone, Copy)]
 pub struct Flow {
     pub height: usize,
     pub distance: usize,
 }
 
-pub fn wide(height: u8) -> usize
-    ensures { (result ≡ height) × (result < 256) }
-{
-    height as usize
-}
-
-pub fn wide16(distance: u16) -> usize
-    ensures { (result ≡ distance) × (result < 65536) }
-{
-    distance as usize
-}
-
+// The height, or mark, where `cell` stood and a height arrives.
 pub fn joined_with(cell: usize, height: usize) -> usize
     requires { height < 256 }
     ensures { (result ≡ joined cell height) × (result < 256) }
 {
-    if cell == UNREACHED {
-        return height;
-    }
-    if cell == height {
+    if cell == UNREACHED || cell == height {
         return height;
     }
     DIFFERING
 }
 
-pub fn greater(a: usize, b: usize) -> usize
-    ensures { result ≡ max a b }
-{
-    if a < b {
-        return b;
-    }
-    a
+// What jumps have brought to the first N offsets.
+#[derive(Drop)]
+pub struct Brought<const N: usize> {
+    pub heights: [u8; N],
+    pub distances: [u16; N],
+    ghost whole: { (length heights ≡ N) × (length distances ≡ N) },
 }
 
-// A jump arrives at `to` with that height, after that many instructions.
-pub fn arrive_at(
-    to: usize,
-    height: usize,
-    distance: usize,
-    heights: &mut [u8],
-    distances: &mut [u16],
-)
-    requires { (to < length heights.old) × (to < length distances.old) × (height < 256) × (distance < 65536) }
-    ensures { (heights.new ≡ arrive height to heights.old) × (distances.new ≡ raise distance to distances.old) }
-{
-    heights[to] = joined_with(wide(heights[to]), height) as u8;
-    distances[to] = greater(wide16(distances[to]), distance) as u16;
+impl<const N: usize> Brought<N> {
+    pub fn new() -> Brought<N>
+        ensures { (result.heights ≡ replicate N unreached) × (result.distances ≡ replicate N 0) }
+    {
+        Brought {
+            heights: [verdict::UNREACHED; N],
+            distances: [0; N],
+        }
+    }
+
+    // What has come to `at`.
+    pub fn at(&self, at: usize) -> Flow
+        requires { at < N }
+        ensures { (result.height ≡ get_or self.now.heights at 0) × (result.height < 256) × (result.distance ≡ get_or self.now.distances at 0) × (result.distance < 65536) }
+    {
+        Flow {
+            height: usize::from(self.heights[at]),
+            distance: usize::from(self.distances[at]),
+        }
+    }
+
+    // A jump arrives at `to` with that height, after that many instructions.
+    pub fn arrive(&mut self, to: usize, flow: Flow)
+        requires { (to < N) × (flow.height < 256) × (flow.distance < 65536) }
+        ensures { (self.new.heights ≡ arrive flow.height to self.old.heights) × (self.new.distances ≡ raise flow.distance to self.old.distances) }
+    {
+        let here = self.at(to);
+        self.heights[to] = joined_with(here.height, flow.height) as u8;
+        self.distances[to] = here.distance.max(flow.distance) as u16;
+    }
 }

@@ -70,6 +70,9 @@ front : (l : List ℕ) (n : ℕ) → get_or (drop n l) 0 0 ≡ get_or l n 0
 front l n = let e : n + 0 ≡ n = omega arith in get_or-drop n l 0 0 ∙ ap (λ (j : ℕ). get_or l j 0) e
 
 module _ {l : List ℕ} {n : ℕ} (s : Skipping l n) where
+  pub skip_on : {k : ℕ} → k ≡ n → Skipping l k
+  skip_on e = rw e s
+
   pub skip_short : length l - n ≤ 1 → drop n l ≡ significant l
   skip_short h = short (drop n l) (omega (arith, h, length-drop n l)) ∙ s.same
 

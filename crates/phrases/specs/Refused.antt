@@ -1,8 +1,7 @@
 -- How every answer names a refusal, and its words.
-use Rattle.std.specs.Prelude.{ℕ, List, [], ◌∷◌, ◌++◌, map, get_or}
+use Rattle.std.specs.Prelude.{ℕ, List, [], ◌∷◌, ◌++◌, get_or}
 use Prim.Native.String.{String}
 use Rattle.text_buffer.specs.Decimal.{decimal}
-use Rattle.text_buffer.specs.Rows.{padded}
 use Rattle.text_buffer.specs.Text.{bytes_of}
 
 -- `refused N at offset K`
@@ -43,7 +42,3 @@ refusals =
 -- a number above the last is unknown too
 abbrev pub refusal_of : ℕ → String
 refusal_of n = get_or refusals n "unknown refusal number"
-
--- the words as the code keeps them
-unfoldable pub words_table : List (List ℕ)
-words_table = map (padded 47) refusals

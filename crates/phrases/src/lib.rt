@@ -1,5 +1,4 @@
-// Pieces of text that several lines of the tool share. Each function appends to a text in a lent buffer,
-// as those of `text_buffer` do: `at` is where the text so far ends, and the answer is where it ends then.
+// Pieces of text that several lines of the tool share. Each function appends to a text buffer.
 #![tactic(auto)]
 
 pub mod numbers;

@@ -1,14 +1,13 @@
 -- A frame, read: one law for each way out of the code, and what is known of it.
 use mathlib.Core.List.{List, ◌++◌}
 use mathlib.Core.Path.{◌≡◌, refl, ap, sym, ◌∙◌}
-use Prim.Native.Nat.{ℕ, ◌+◌, ◌-◌, ◌≤◌}
+use Prim.Native.Nat.{ℕ, ◌+◌, ◌≤◌}
 use native.Mathlib.Omega.{arith}
 use lib.ListN.{length, take, drop, length-take, length-drop}
 use lib.Seq.{take-add, drop-drop}
 use Rattle.sizes.specs.Sizes.{buffer_most}
 use Rattle.refusals.specs.Numbers.{record_broken}
-use Rattle.refusals.specs.Refusal.{refusal}
-use Rattle.refusals.specs.declared.Refusal.{Refusal}
+use Rattle.refusals.specs.Refusal.{Refusal, refusal}
 use Rattle.encoding.specs.Ranges.{AllBytes}
 use Rattle.encoding.proofs.Promises.{below_take, below_drop}
 use Rattle.frames.specs.declared.Tag.{Tag}
@@ -42,20 +41,20 @@ module _ (l : List ℕ) (used number : ℕ) where
 
   module _ {t : Tag} {s n : ℕ} (e : frame t s n ≡ located l used number) where
     -- the part of the buffer that is lent is the frame's records
-    framed_frame : framed_by t s (divide (take (s + n - s) (drop s l))) ≡ framed l used number
+    framed_frame : framed_by t s (divide (take n (drop s l))) ≡ framed l used number
     unfolding framed
-    framed_frame = let q : s + n - s ≡ n = omega arith in rw q (ap (framed_at_of l) e)
+    framed_frame = ap (framed_at_of l) e
 
-    pub read_frame : (i : ℕ) → record_in i (framed_by t s (divide (take (s + n - s) (drop s l)))) ≡ reading l used number i
+    pub read_frame : (i : ℕ) → record_in i (framed_by t s (divide (take n (drop s l)))) ≡ reading l used number i
     unfolding reading
     read_frame i = ap (record_in i) framed_frame
 
-    pub count_frame : count_in (framed_by t s (divide (take (s + n - s) (drop s l)))) ≡ counting l used number
+    pub count_frame : count_in (framed_by t s (divide (take n (drop s l)))) ≡ counting l used number
     unfolding counting
     count_frame = ap count_in framed_frame
 
-    pub lent_length : length (take (s + n - s) (drop s l)) ≡ n
-    lent_length = omega (arith, located_inside l used number e, length-take (s + n - s) (drop s l), length-drop s l)
+    pub lent_length : length (take n (drop s l)) ≡ n
+    lent_length = omega (arith, located_inside l used number e, length-take n (drop s l), length-drop s l)
 
 -- ---- a frame that was read: its records are exactly the bytes that its trailer counts
 pub record Exact (l : List ℕ) (used number : ℕ) (t : Tag) (s : ℕ) (rs : List Record) : Type 0 where

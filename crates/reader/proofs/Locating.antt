@@ -6,25 +6,24 @@ use Prim.Native.Nat.{ℕ, zero, suc, ◌+◌, ◌-◌, ◌≤◌, ◌<◌}
 use native.Mathlib.Omega.{arith}
 use lib.ListN.{length, take, drop}
 use lib.Dec.{leb, ltb, eqb}
+use Rattle.std.proofs.Common.{Option, Some, None}
 use borrow.Author.Tests.{lt-ltb, le-ltb, le-leb, lt-leb, ne_eqb, leb-true, ltb-false}
 use Rattle.sizes.specs.Sizes.{buffer_most}
 use Rattle.refusals.specs.Numbers.{buffer_bad, trailer_broken, no_such_frame}
-use Rattle.refusals.specs.Refusal.{refusal}
-use Rattle.refusals.specs.declared.Refusal.{Refusal}
+use Rattle.refusals.specs.Refusal.{Refusal, refusal}
 use Rattle.frames.specs.Buffer.{unfit}
 use Rattle.frames.specs.declared.Tag.{Tag}
 use Rattle.frames.specs.Trailer.{trailer_size, TrailerRead, trailer, broken_trailer, decode_trailer}
 use Rattle.frames.specs.Joining.Answers.{ending_of}
-use Rattle.frames.specs.declared.Ending.{Ending}
-use Rattle.frames.specs.declared.Ending.TheVariants.{Closes, NoTrailer}
+use Rattle.frames.specs.declared.trailer.Trailer.{Trailer}
 use Rattle.frames.proofs.Promises.{is_fit, fit_lengths}
 use Rattle.reader.specs.Located.{Located, frame, refused, closed_by, frame_before, older, frame_back, located, walked}
 
 -- ---- the frame that ends at an offset
 -- what a trailer says, by the code's answer
-abbrev closed_as : ℕ → Ending → Located
-closed_as end (Closes t n) = cond (leb n (end - trailer_size)) (frame t (end - trailer_size - n) n) (refused (refusal trailer_broken end))
-closed_as end NoTrailer = refused (refusal trailer_broken end)
+abbrev closed_as : ℕ → Option Trailer → Located
+closed_as end (Some t) = cond (leb t.length (end - trailer_size)) (frame t.tag (end - trailer_size - t.length) t.length) (refused (refusal trailer_broken end))
+closed_as end None = refused (refusal trailer_broken end)
 
 closed_same : (end : ℕ) (d : TrailerRead) → closed_by end d ≡ closed_as end (ending_of d)
 closed_same end (trailer t n) = refl
@@ -43,7 +42,7 @@ module _ (l : List ℕ) (end : ℕ) where
     unfolding frame_before
     too_short h = rw (not_nothing, lt-ltb end trailer_size h)
 
-    module _ (h : trailer_size ≤ end) {x : Ending} (e : x ≡ ending_of (decode_trailer (take (end - (end - trailer_size)) (drop (end - trailer_size) l)))) where
+    module _ (h : trailer_size ≤ end) {x : Option Trailer} (e : x ≡ ending_of (decode_trailer (take (end - (end - trailer_size)) (drop (end - trailer_size) l)))) where
       by_trailer : closed_as end x ≡ frame_before l end
       unfolding frame_before
       by_trailer =
@@ -51,14 +50,14 @@ module _ (l : List ℕ) (end : ℕ) where
           rw (not_nothing, le-ltb end trailer_size h, e, n)
           (sym (closed_same end (decode_trailer (take trailer_size (drop (end - trailer_size) l)))))
 
-      pub no_trailer : x ≡ NoTrailer → refused (refusal trailer_broken end) ≡ frame_before l end
+      pub no_trailer : x ≡ None → refused (refusal trailer_broken end) ≡ frame_before l end
       no_trailer g = rw g at by_trailer
 
-      pub too_long : {t : Tag} {n : ℕ} → x ≡ Closes t n → end - trailer_size < n → refused (refusal trailer_broken end) ≡ frame_before l end
-      too_long {t} {n} g b = rw (g, lt-leb n (end - trailer_size) b) at by_trailer
+      pub too_long : {t : Trailer} → x ≡ Some t → end - trailer_size < t.length → refused (refusal trailer_broken end) ≡ frame_before l end
+      too_long {t} g b = rw (g, lt-leb t.length (end - trailer_size) b) at by_trailer
 
-      pub frame_there : {t : Tag} {n : ℕ} → x ≡ Closes t n → n ≤ end - trailer_size → frame t (end - trailer_size - n) n ≡ frame_before l end
-      frame_there {t} {n} g b = rw (g, le-leb n (end - trailer_size) b) at by_trailer
+      pub frame_there : {t : Trailer} → x ≡ Some t → t.length ≤ end - trailer_size → frame t.tag (end - trailer_size - t.length) t.length ≡ frame_before l end
+      frame_there {t} g b = rw (g, le-leb t.length (end - trailer_size) b) at by_trailer
 
 -- ---- what is known of a frame that was found: its records, then its trailer, end there
 abbrev pub Ends : ℕ → Located → Type 0

@@ -6,17 +6,15 @@ use mathlib.Core.Path.{◌≡◌}
 use Prim.Native.Nat.{ℕ, zero, suc, ◌+◌}
 use lib.ListN.{take, drop}
 use lib.Dec.{T}
+use Rattle.refusals.specs.Refusal.{Refusal}
 use Rattle.refusals.specs.Numbers.{buffer_bad, trailer_broken, record_broken, no_such_frame, no_such_record}
-use Rattle.refusals.specs.declared.Refusal.{Refusal}
 use Rattle.frames.specs.declared.Tag.{Tag}
 use Rattle.frames.specs.Record.{Record, memory, variable, size}
 use Rattle.frames.specs.Division.{Division, records, broken_at, divide}
 use Rattle.reader.specs.Located.{Located, frame, refused, located, walked}
 use Rattle.reader.specs.Framed.{FrameRead, frame_read, refused_frame, framed_by, framed_at_of, framed}
 use Rattle.reader.specs.Read.{Read, memory_read, variable_read, refused_read, told, record_read, record_in, reading, Counted, counted, refused_count, count_in, counting}
-use Rattle.reader.specs.NextRecord.{step_over, next_record}
-use Rattle.reader.specs.declared.RecordStep.{RecordStep}
-use Rattle.reader.specs.declared.RecordStep.TheVariants.{Memory, Variable, Refused}
+use Rattle.reader.specs.NextRecord.{RecordStep, Memory, Variable, Refused, step_over, next_record}
 use Rattle.reader.proofs.Stepping.{by_place}
 use Rattle.reader.proofs.Locating.{located_all, walked_all}
 

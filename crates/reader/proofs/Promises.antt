@@ -10,8 +10,7 @@ use lib.ListN.{length, take, drop}
 use lib.Dec.{T}
 use Rattle.sizes.specs.Sizes.{buffer_most}
 use Rattle.refusals.specs.Numbers.{buffer_bad, trailer_broken, record_broken, no_such_frame, no_such_record}
-use Rattle.refusals.specs.Refusal.{refusal}
-use Rattle.refusals.specs.declared.Refusal.{Refusal}
+use Rattle.refusals.specs.Refusal.{Refusal, refusal}
 use Rattle.encoding.specs.Ranges.{AllBytes}
 use Rattle.encoding.specs.Written.{written_at}
 use Rattle.frames.specs.Record.{Record, memory, encode_all, AllWellFormed}
@@ -21,8 +20,7 @@ use Rattle.frames.specs.declared.Tag.{Tag}
 use Rattle.reader.specs.Located.{frame, refused, located, walked}
 use Rattle.reader.specs.Framed.{frame_read, refused_frame, framed}
 use Rattle.reader.specs.Read.{memory_read, refused_read, told, reading, counted, refused_count, counting}
-use Rattle.reader.specs.NextRecord.{record_there, record_at, next_record, RecordsFrom}
-use Rattle.reader.specs.declared.RecordStep.TheVariants.{Memory, Variable, Refused}
+use Rattle.reader.specs.NextRecord.{record_there, record_at, Memory, Variable, Refused, next_record, RecordsFrom}
 use Rattle.reader.proofs.Locating as locating
 use Rattle.reader.proofs.Framing as framing
 use Rattle.reader.proofs.Inside as inside

@@ -7,6 +7,7 @@ use native.Mathlib.Nat.{add-zero, add_assoc}
 use native.Mathlib.Omega.{arith}
 use lib.ListN.{length, take, drop, length-append, length-drop, take-append-drop}
 use lib.Seq.{length-take-le, take-append_seam, drop-append_seam, take-append-le, drop-append-le, drop-drop, take_at, drop_at}
+use Rattle.std.proofs.Common.{Some}
 use Rattle.encoding.specs.Written.{written_at}
 use Rattle.logic.proofs.Promises.{cases}
 use Rattle.encoding.proofs.Promises.{written_length, written_form}
@@ -17,7 +18,7 @@ use Rattle.frames.specs.declared.Tag.{Tag}
 use Rattle.frames.specs.Trailer.{trailer_size, TagFits, encode_trailer, decode_trailer}
 use Rattle.frames.specs.Frame.{encode_frame}
 use Rattle.frames.specs.Joining.Answers.{ending_of}
-use Rattle.frames.specs.declared.Ending.TheVariants.{Closes}
+use Rattle.frames.specs.declared.trailer.Trailer.{Trailer}
 use Rattle.frames.proofs.Promises.{length_encode, encode_all_append, frame_length, trailer_length, decode_trailer_lem, divide_all}
 use Rattle.reader.specs.Located.{Located, frame, refused, frame_before, older, frame_back, located}
 use Rattle.refusals.specs.Numbers.{no_such_record}
@@ -122,7 +123,8 @@ module _ (l : List ℕ) (u : ℕ) (t : Tag) (rs : List Record) (small : length l
       let n : end - trailer_size ≡ u + long = omega (arith, frame_long) in
       let m : end - (end - trailer_size) ≡ trailer_size = omega (arith, frame_long) in
       let s : end - trailer_size - long ≡ u = omega (arith, frame_long) in
-      let closes : Closes t long ≡ ending_of (decode_trailer (take (end - (end - trailer_size)) (drop (end - trailer_size) after))) =
+      let closed : Trailer = record { tag = t; length = long } in
+      let closes : Some closed ≡ ending_of (decode_trailer (take (end - (end - trailer_size)) (drop (end - trailer_size) after))) =
       sym (rw (m, n, trailer_there) (ap ending_of (decode_trailer_lem t long low (omega (arith, frame_long))))) in
       sym (frame_there after end (omega (arith, frame_long)) (omega (arith, frame_long)) closes refl (omega (arith, frame_long))) ∙ ap (λ k. frame t k long) s
 

@@ -12,8 +12,7 @@ use lib.Seq.{take-add, drop_at, drop-drop, length-take-le}
 use Rattle.logic.proofs.Promises.{cases}
 use Rattle.sizes.specs.Sizes.{buffer_most}
 use Rattle.refusals.specs.Numbers.{record_broken, no_such_record}
-use Rattle.refusals.specs.Refusal.{refusal}
-use Rattle.refusals.specs.declared.Refusal.{Refusal}
+use Rattle.refusals.specs.Refusal.{Refusal, refusal}
 use Rattle.frames.specs.Buffer.{unfit}
 use Rattle.frames.specs.declared.Tag.{Tag}
 use Rattle.frames.specs.Record.{Record, size, encode_all, Decoded, found, broken, decode}

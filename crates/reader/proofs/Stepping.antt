@@ -6,24 +6,22 @@ use Prim.Native.Nat.{ℕ, ◌+◌, ◌-◌, ◌≤◌, ◌<◌}
 use native.Mathlib.Omega.{arith}
 use lib.ListN.{length, take, drop, length-take, length-drop}
 use lib.Seq.{drop-drop}
+use Rattle.std.proofs.Common.{Some, None}
 use borrow.Author.Tests.{le-leb, lt-leb}
 use Rattle.logic.proofs.Promises.{cases}
 use Rattle.sizes.specs.Sizes.{buffer_most}
 use Rattle.encoding.specs.Ranges.{AllBytes}
 use Rattle.encoding.proofs.Promises.{below_take, below_drop}
 use Rattle.refusals.specs.Numbers.{buffer_bad, record_broken, no_such_record}
-use Rattle.refusals.specs.Refusal.{refusal}
-use Rattle.refusals.specs.declared.Refusal.{Refusal}
+use Rattle.refusals.specs.Refusal.{Refusal, refusal}
 use Rattle.frames.specs.Buffer.{unfit}
 use Rattle.frames.specs.Record.{Record, memory, variable, size, Decoded, found, broken, decode}
-use Rattle.frames.specs.Joining.Answers.{size_of, fields_of, Tells}
-use Rattle.frames.specs.declared.RecordFields.{RecordFields}
-use Rattle.frames.specs.declared.RecordFields.TheVariants.{Memory, Variable}
+use Rattle.frames.specs.Joining.Answers.{size_of}
 use Rattle.frames.proofs.Promises.{fit_lengths, found_fits, encode_decode, by_size}
-use Rattle.reader.specs.NextRecord.{AtPlace, record_there, refused_there, decoded_at, record_at, step_over, step_at, next_record}
-use Rattle.reader.specs.declared.RecordStep.{RecordStep}
-use Rattle.reader.specs.declared.RecordStep.TheVariants.{Memory as MemoryStep, Variable as VariableStep, Refused}
-use Rattle.reader.proofs.Splitting.{memory_long}
+use Rattle.reader.specs.NextRecord.{AtPlace, record_there, refused_there, decoded_at, record_at, RecordStep, Memory as MemoryStep, Variable as VariableStep, Refused, step_over, step_at, next_record}
+use Rattle.reader.specs.Answers.{step_to}
+use Rattle.reader.specs.Joining.Splitting.{found_of, FoundAt}
+use Rattle.reader.specs.declared.Found.{Found}
 use Rattle.reader.proofs.ReadBack.{part_front, header_skipped}
 
 -- the bytes from a place to the end
@@ -39,6 +37,10 @@ not_both e = let z : ◌≡◌ {A = ℕ} 0 1 = cc in omega arith
 by_fit : {X : Type 0} {t : Bool} (b : Bool) → t ≡ b → (t ≡ true → X) → (t ≡ false → X) → X
 by_fit true e f g = f e
 by_fit false e f g = g e
+
+found_step : (place : ℕ) (r : Record) → step_to (found_of place r) (place + size r) ≡ step_over place r
+found_step place (memory a bytes) = refl
+found_step place (variable i x) = refl
 
 module _ (l : List ℕ) (end place : ℕ) where
   -- ---- the record at the place
@@ -84,49 +86,24 @@ module _ (l : List ℕ) (end place : ℕ) where
     pub next_none : end ≤ place → Refused (refusal no_such_record place) ≡ next_record l end place
     next_none h = told_at (at_none fit h)
 
-    module _ (h : place < end) {n : ℕ} (e : n ≡ size_of (decode (rest l end place))) where
+    module _ (h : place < end) where
       by_decoded : {d : Decoded} → decode (rest l end place) ≡ d → step_at place (decoded_at place d) ≡ next_record l end place
       by_decoded q = told_at (at_some fit h ∙ ap (decoded_at place) q)
 
-      pub next_broken : n ≡ 0 → Refused (refusal record_broken place) ≡ next_record l end place
-      next_broken z =
-          by_size (decode (rest l end place)) (λ b s. by_decoded b)
-          (λ r f s. absurd (omega (arith, found_fits (rest l end place) f, s)))
+      pub next_broken : None ≡ size_of (decode (rest l end place)) → Refused (refusal record_broken place) ≡ next_record l end place
+      next_broken e = by_size (decode (rest l end place)) (λ b s. by_decoded b) (λ r f s. cc)
 
-      -- a record that is there ends within the frame
-      pub next_fits : place + n ≤ end
-      next_fits =
-          by_size (decode (rest l end place)) (λ b s. omega arith)
-          (λ r f s. omega (arith, found_fits (rest l end place) f, s, length-take (end - place) (drop place l)))
+      module _ {n : ℕ} (e : Some n ≡ size_of (decode (rest l end place))) where
+        -- a record that is there ends within the frame
+        pub next_fits : place + n ≤ end
+        next_fits =
+            by_size (decode (rest l end place)) (λ b s. cc)
+            (λ r f s. let k : n ≡ size r = cc in omega (arith, found_fits (rest l end place) f, length-take (end - place) (drop place l)))
 
-over_memory : (place : ℕ) (r : Record) {a k : ℕ} → Memory a k ≡ fields_of r → MemoryStep a k (place + 11) (place + size r) ≡ step_over place r
-over_memory place (memory a bytes) e = let p : _ ≡ _ = e in cc
-over_memory place (variable i x) e = absurd (let z : ◌≡◌ {A = ℕ} 0 1 = cc in omega arith)
-
-over_variable : (place : ℕ) (r : Record) {i x : ℕ} → Variable i x ≡ fields_of r → VariableStep i x (place + size r) ≡ step_over place r
-over_variable place (memory a bytes) e = absurd (let z : ◌≡◌ {A = ℕ} 0 1 = cc in omega arith)
-over_variable place (variable i x) e = cc
-
--- ---- the record that is read
-module _ (l : List ℕ) (end place : ℕ) (fit : unfit l end ≡ false) (h : place < end) {n : ℕ} (e : n ≡ size_of (decode (rest l end place)))
-    {x : RecordFields} (y : Tells x (decode (rest l end place))) where
-  tells_by : (d : Decoded) → decode (rest l end place) ≡ d → Tells x d → {X : Type 0} → ((r : Record) → x ≡ fields_of r → n ≡ size r → step_over place r ≡ next_record l end place → X) → X
-  tells_by (found r) q t f = f r t (e ∙ ap size_of q) (by_decoded l end place fit h e q)
-  tells_by broken q t f = absurd t
-
-  pub next_memory : {a k : ℕ} → x ≡ Memory a k → MemoryStep a k (place + 11) (place + n) ≡ next_record l end place
-  next_memory {a} {k} q =
-      tells_by (decode (rest l end place)) refl y
-      (λ r t s o. ap (λ m. MemoryStep a k (place + 11) (place + m)) s ∙ over_memory place r (sym q ∙ t) ∙ o)
-
-  pub next_variable : {i v : ℕ} → x ≡ Variable i v → VariableStep i v (place + n) ≡ next_record l end place
-  next_variable {i} {v} q =
-      tells_by (decode (rest l end place)) refl y
-      (λ r t s o. ap (λ m. VariableStep i v (place + m)) s ∙ over_variable place r (sym q ∙ t) ∙ o)
-
-  -- the header of a memory record is there
-  pub header_there : {a k : ℕ} → x ≡ Memory a k → 11 ≤ n
-  header_there q = tells_by (decode (rest l end place)) refl y (λ r t s o. omega (arith, memory_long r (sym q ∙ t), s))
+        pub next_told : (x : Found) → FoundAt place (decode (rest l end place)) x → step_to x (place + n) ≡ next_record l end place
+        next_told x t =
+            by_size (decode (rest l end place)) (λ b s. cc)
+            (λ r f s. let k : n ≡ size r = cc in let y : x ≡ found_of place r = rw f at t in rw (y, k) (found_step place r ∙ by_decoded f))
 
 -- ---- a step goes forward and stays inside; so do the bytes of a memory record
 abbrev Onward : List ℕ → ℕ → ℕ → RecordStep → Type 0

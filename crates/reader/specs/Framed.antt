@@ -2,8 +2,7 @@
 -- of this.
 use Rattle.std.specs.Prelude.{List, ℕ, ◌+◌, take, drop}
 use Rattle.refusals.specs.Numbers.{record_broken}
-use Rattle.refusals.specs.Refusal.{refusal}
-use Rattle.refusals.specs.declared.Refusal.{Refusal}
+use Rattle.refusals.specs.Refusal.{Refusal, refusal}
 use Rattle.frames.specs.declared.Tag.{Tag}
 use Rattle.frames.specs.Record.{Record}
 use Rattle.frames.specs.Division.{Division, records, broken_at, divide}

@@ -2,8 +2,7 @@
 -- back".
 use Rattle.std.specs.Prelude.{cond, List, ℕ, zero, suc, ◌-◌, take, drop, leb, ltb, eqb}
 use Rattle.refusals.specs.Numbers.{buffer_bad, trailer_broken, no_such_frame}
-use Rattle.refusals.specs.Refusal.{refusal}
-use Rattle.refusals.specs.declared.Refusal.{Refusal}
+use Rattle.refusals.specs.Refusal.{Refusal, refusal}
 use Rattle.frames.specs.Buffer.{unfit}
 use Rattle.frames.specs.declared.Tag.{Tag}
 use Rattle.frames.specs.Trailer.{trailer_size, TrailerRead, trailer, broken_trailer, decode_trailer}

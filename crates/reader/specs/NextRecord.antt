@@ -2,12 +2,9 @@
 -- frame's records end: its start and the length of its records, as document 01's walker tells them ("Frames").
 use Rattle.std.specs.Prelude.{cond, List, [], ◌∷◌, ◌≡◌, ℕ, ◌+◌, ◌-◌, length, take, drop, leb}
 use Rattle.refusals.specs.Numbers.{buffer_bad, record_broken, no_such_record}
-use Rattle.refusals.specs.Refusal.{refusal}
-use Rattle.refusals.specs.declared.Refusal.{Refusal}
+use Rattle.refusals.specs.Refusal.{Refusal, refusal}
 use Rattle.frames.specs.Buffer.{unfit}
 use Rattle.frames.specs.Record.{Record, memory, variable, size, Decoded, found, broken, decode}
-use Rattle.reader.specs.declared.RecordStep.{RecordStep}
-use Rattle.reader.specs.declared.RecordStep.TheVariants.{Memory, Variable, Refused}
 
 -- the record at a place, or why there is none
 pub data AtPlace : Type 0 where
@@ -28,6 +25,13 @@ record_at buffer end place =
     (decoded_at place (decode (take (end - place) (drop place buffer)))))
 
 -- ---- what is told of it, and the next place, behind it
+pub data RecordStep : Type 0 where
+  -- address, length, place of the bytes in the buffer, next place
+  Memory : ℕ → ℕ → ℕ → ℕ → RecordStep
+  -- number, value, next place
+  Variable : ℕ → ℕ → ℕ → RecordStep
+  Refused : Refusal → RecordStep
+
 -- a memory record's bytes stand behind 4d, the address (8) and the length (2)
 abbrev pub step_over : ℕ → Record → RecordStep
 step_over place (memory address bytes) = Memory address (length bytes) (place + 11) (place + size (memory address bytes))

@@ -1,8 +1,7 @@
 -- What is told of a frame (document 01, "Frames"): one of its records, and how many it has.
 use Rattle.std.specs.Prelude.{List, [], ◌∷◌, ℕ, zero, suc, ◌+◌, length}
 use Rattle.refusals.specs.Numbers.{no_such_record}
-use Rattle.refusals.specs.Refusal.{refusal}
-use Rattle.refusals.specs.declared.Refusal.{Refusal}
+use Rattle.refusals.specs.Refusal.{Refusal, refusal}
 use Rattle.frames.specs.declared.Tag.{Tag}
 use Rattle.frames.specs.Record.{Record, memory, variable, size, encode_all}
 use Rattle.reader.specs.Framed.{FrameRead, frame_read, refused_frame, framed}

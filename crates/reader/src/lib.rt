@@ -1,222 +1,230 @@
 // The frame reader: frames from the newest on, the records of one, and the walker over them all.
 #![tactic(auto)]
 
-ghost use Rattle.std.specs.Prelude.{◌≡◌, ◌+◌, ◌≤◌, length};
+ghost use Rattle.std.specs.Prelude.{◌≡◌, ◌+◌, ◌≤◌, IsSome, length, take, drop};
 ghost use Rattle.sizes.specs.Sizes.{buffer_most};
+ghost use Rattle.frames.specs.Record.{decode};
 ghost use Rattle.frames.specs.Division.{divide as division};
+ghost use Rattle.frames.specs.Joining.Answers.{size_of};
 ghost use Rattle.reader.specs.Located.{frame_before, located, walked};
 ghost use Rattle.reader.specs.Framed.{framed_by};
 ghost use Rattle.reader.specs.Read.{reading, counting, record_in};
 ghost use Rattle.reader.specs.NextRecord.{next_record};
-ghost use Rattle.reader.specs.Answers.{located_of, read_of, counted_of};
-ghost use Rattle.reader.specs.Joining.Splitting.{split_of};
+ghost use Rattle.reader.specs.Answers.{located_of, read_of, counted_of, step_of};
+ghost use Rattle.reader.specs.Joining.Splitting.{SplitAs, FoundAt};
 
-use frames::{Ending, RecordFields, Tag};
-use refusals::{Refusal, refusal_at};
+use frames::trailer::TRAILER_SIZE;
+use frames::{Record, Tag};
+use refusals::{Reason, Refusal};
 
-// A frame: tag, start, length of the records.
+// A frame: its tag, where it starts, and how many bytes its records have.
 #[derive(Clone, Copy)]
-pub enum FrameAnswer {
-    Frame(Tag, usize, usize),
-    Refused(Refusal),
+pub struct Frame {
+    pub tag: Tag,
+    pub start: usize,
+    pub length: usize,
 }
 
-// Memory: tag, address, length, place of the bytes in the buffer. Variable: tag, number, value.
+// A frame, and how many records it has.
 #[derive(Clone, Copy)]
-pub enum RecordAnswer {
-    Memory(Tag, u64, usize, usize),
-    Variable(Tag, u64, u64),
-    Refused(Refusal),
+pub struct Counted {
+    pub frame: Frame,
+    pub records: usize,
 }
 
-// Tag, start, length of the records, their number.
+// A record, with the place of its bytes in the buffer.
 #[derive(Clone, Copy)]
-pub enum CountAnswer {
-    Records(Tag, usize, usize, usize),
-    Refused(Refusal),
+pub enum Found {
+    Memory {
+        address: u64,
+        length: usize,
+        place: usize,
+    },
+    Variable {
+        number: u64,
+        value: u64,
+    },
 }
 
-// Memory: address, length, place of the bytes in the buffer, next place. Variable: number, value, next place.
+// A record that is read, and the tag of its frame.
 #[derive(Clone, Copy)]
-pub enum RecordStep {
-    Memory(u64, usize, usize, usize),
-    Variable(u64, u64, usize),
-    Refused(Refusal),
+pub struct ReadRecord {
+    pub tag: Tag,
+    pub record: Found,
 }
 
-// The number of records, and the offset of the one asked for or the length of the bytes; or the offset of the first
-// that is broken.
+// A record, and the place behind it.
 #[derive(Clone, Copy)]
-pub enum Split {
-    Whole(usize, usize),
-    BrokenAt(usize),
+pub struct NextRecord {
+    pub record: Found,
+    pub next: usize,
+}
+
+// How many records there are, and the offset of the one that was asked for.
+#[derive(Clone, Copy)]
+struct Split {
+    count: usize,
+    found: Option<usize>,
 }
 
 // ---- where a frame is
 // The frame that ends at `end`.
-fn frame_before(buffer: &[u8], end: usize) -> FrameAnswer
+fn frame_before(buffer: &[u8], end: usize) -> Result<Frame, Refusal>
     requires { end ≤ length buffer.now }
     ensures { located_of result ≡ frame_before buffer.now end }
 {
     // One test for a frame that is long enough, and two refusals behind it.
-    if end < frames::trailer::TRAILER_SIZE {
+    if end < TRAILER_SIZE {
         if end == 0 {
-            return FrameAnswer::Refused(refusal_at(refusals::NO_SUCH_FRAME, 0));
+            return Err(Refusal::at(Reason::NoSuchFrame, 0));
         }
-        return FrameAnswer::Refused(refusal_at(refusals::TRAILER_BROKEN, end));
+        return Err(Refusal::at(Reason::TrailerBroken, end));
     }
-    let closed = end - frames::trailer::TRAILER_SIZE;
-    match frames::trailer::read_trailer(&buffer[closed..end]) {
-        Ending::NoTrailer => FrameAnswer::Refused(refusal_at(refusals::TRAILER_BROKEN, end)),
-        Ending::Closes(tag, length) => {
-            if closed < length {
-                return FrameAnswer::Refused(refusal_at(refusals::TRAILER_BROKEN, end));
-            }
-            FrameAnswer::Frame(tag, closed - length, length)
-        }
+    let closed = end - TRAILER_SIZE;
+    let Some(trailer) = frames::trailer::read_trailer(&buffer[closed..end]) else {
+        return Err(Refusal::at(Reason::TrailerBroken, end));
+    };
+    if closed < trailer.length {
+        return Err(Refusal::at(Reason::TrailerBroken, end));
     }
+    Ok(Frame {
+        tag: trailer.tag,
+        start: closed - trailer.length,
+        length: trailer.length,
+    })
 }
 
 // The next older frame from a place on: the work of the walker.
-pub fn walk(buffer: &[u8], place: usize) -> FrameAnswer
+pub fn walk(buffer: &[u8], place: usize) -> Result<Frame, Refusal>
     ensures { located_of result ≡ walked buffer.now place }
 {
     if frames::is_unfit(buffer, place) {
-        return FrameAnswer::Refused(refusal_at(refusals::BUFFER_BAD, 0));
+        return Err(Refusal::at(Reason::BufferBad, 0));
     }
     frame_before(buffer, place)
 }
 
 // Frame number `number`, counted from the newest, 0.
-pub fn locate(buffer: &[u8], used: usize, number: u64) -> FrameAnswer
+pub fn locate(buffer: &[u8], used: usize, number: u64) -> Result<Frame, Refusal>
     ensures { located_of result ≡ located buffer.now used number }
 {
     if frames::is_unfit(buffer, used) {
-        return FrameAnswer::Refused(refusal_at(refusals::BUFFER_BAD, 0));
+        return Err(Refusal::at(Reason::BufferBad, 0));
     }
     let mut end = used;
-    let mut left = number;
-    loop {
-        match frame_before(buffer, end) {
-            FrameAnswer::Refused(refusal) => {
-                return FrameAnswer::Refused(refusal);
-            }
-            FrameAnswer::Frame(tag, start, length) => {
-                if left == 0 {
-                    return FrameAnswer::Frame(tag, start, length);
-                }
-                end = start;
-                left -= 1;
-            }
-        }
+    for passed in 0..number {
+        end = frame_before(buffer, end)?.start;
     }
+    frame_before(buffer, end)
 }
 
 // ---- the records of a frame
-// Divides bytes into records, and notes the offset of record number `wanted`. The bytes left are counted beside the
-// offset, so that neither is computed from the other at each record.
-fn divide(bytes: &[u8], wanted: u64) -> Split
-    ensures { result ≡ split_of (length bytes.now) wanted (division bytes.now) }
+// The bytes of a frame's records.
+fn records_of<'a>(buffer: &'a [u8], frame: Frame) -> &'a [u8]
+    requires { frame.start + frame.length ≤ length buffer.now }
+    ensures { result.now ≡ take frame.length (drop frame.start buffer.entry.now) }
 {
-    let mut at = 0;
-    let mut left = bytes.len();
-    let mut count = 0;
-    let mut found = bytes.len();
-    while 0 < left {
-        let end = at + left;
-        let size = frames::record_size(&bytes[at..end]);
-        if size == 0 {
-            return Split::BrokenAt(at);
-        }
-        if count as u64 == wanted {
-            found = at;
-        }
-        at += size;
-        left -= size;
-        count += 1;
-    }
-    Split::Whole(count, found)
+    &buffer[frame.start..frame.start + frame.length]
 }
 
-// Record number `index` of the frame whose records these bytes are, from `start` on.
-fn read_in(bytes: &[u8], tag: Tag, start: usize, index: u64) -> RecordAnswer
+// Divides the bytes of a frame's records, from `start` on, and notes the offset of record number `wanted`. The loop keeps
+// what is left and how much was left there: an offset and an Option beside them cost four machine instructions a record.
+fn divide(bytes: &[u8], start: usize, wanted: u64) -> Result<Split, Refusal>
     requires { start + length bytes.now ≤ buffer_most }
-    ensures { read_of result ≡ record_in index (framed_by tag start (division bytes.now)) }
+    ensures { SplitAs start wanted (division bytes.now) result }
 {
-    match divide(bytes, index) {
-        Split::BrokenAt(offset) => {
-            let broken = start + offset;
-            RecordAnswer::Refused(refusal_at(refusals::RECORD_BROKEN, broken))
+    // A record tells itself how long it is: so what is left is gone over, and no index.
+    let mut rest = bytes;
+    let mut count = 0;
+    let mut left = 0;
+    while 0 < rest.len() {
+        let Some(size) = frames::record_size(rest) else {
+            let at = bytes.len() - rest.len();
+            return Err(Refusal::at(Reason::RecordBroken, start + at));
+        };
+        if count as u64 == wanted {
+            left = rest.len();
         }
-        Split::Whole(count, found) => {
-            if found == bytes.len() {
-                return RecordAnswer::Refused(refusal_at(refusals::NO_SUCH_RECORD, start));
-            }
-            match frames::read_record(&bytes[found..]) {
-                RecordFields::Memory(address, length) => {
-                    let header = start + found;
-                    let place = header + frames::MEMORY_HEADER;
-                    RecordAnswer::Memory(tag, address, length, place)
-                }
-                RecordFields::Variable(number, value) => RecordAnswer::Variable(tag, number, value),
-            }
-        }
+        rest = &rest[size..];
+        count += 1;
     }
+    if wanted < count as u64 {
+        let found = Some(bytes.len() - left);
+        return Ok(Split { count, found });
+    }
+    Ok(Split { count, found: None })
+}
+
+// The record at the front of these bytes, which stand at `place` in the buffer.
+fn found_at(bytes: &[u8], place: usize) -> Found
+    requires there { IsSome (size_of (decode bytes.now)) }
+    requires within { place + length bytes.now ≤ buffer_most }
+    ensures { FoundAt place (decode bytes.now) result }
+{
+    match frames::read_record(bytes) {
+        Record::Memory { address, length } => Found::Memory {
+            address,
+            length,
+            place: place + frames::MEMORY_HEADER,
+        },
+        Record::Variable { number, value } => Found::Variable { number, value },
+    }
+}
+
+// Record number `index` of the frame whose records these bytes are.
+fn read_in(bytes: &[u8], frame: Frame, index: u64) -> Result<ReadRecord, Refusal>
+    requires { frame.start + length bytes.now ≤ buffer_most }
+    ensures { read_of result ≡ record_in index (framed_by frame.tag frame.start (division bytes.now)) }
+{
+    let split = divide(bytes, frame.start, index)?;
+    let Some(offset) = split.found else {
+        return Err(Refusal::at(Reason::NoSuchRecord, frame.start));
+    };
+    let record = found_at(&bytes[offset..], frame.start + offset);
+    Ok(ReadRecord {
+        tag: frame.tag,
+        record,
+    })
 }
 
 // Reads record number `index` of frame number `number`.
-pub fn read(buffer: &[u8], used: usize, number: u64, index: u64) -> RecordAnswer
+pub fn read(buffer: &[u8], used: usize, number: u64, index: u64) -> Result<ReadRecord, Refusal>
     ensures { read_of result ≡ reading buffer.now used number index }
 {
-    match locate(buffer, used, number) {
-        FrameAnswer::Refused(refusal) => RecordAnswer::Refused(refusal),
-        FrameAnswer::Frame(tag, start, length) => {
-            let end = start + length;
-            read_in(&buffer[start..end], tag, start, index)
-        }
-    }
+    let frame = locate(buffer, used, number)?;
+    read_in(records_of(buffer, frame), frame, index)
 }
 
 // How many records frame number `number` has.
-pub fn count_records(buffer: &[u8], used: usize, number: u64) -> CountAnswer
+pub fn count_records(buffer: &[u8], used: usize, number: u64) -> Result<Counted, Refusal>
     ensures { counted_of result ≡ counting buffer.now used number }
 {
-    match locate(buffer, used, number) {
-        FrameAnswer::Refused(refusal) => CountAnswer::Refused(refusal),
-        FrameAnswer::Frame(tag, start, length) => {
-            let end = start + length;
-            match divide(&buffer[start..end], 0) {
-                Split::BrokenAt(offset) => {
-                    let broken = start + offset;
-                    CountAnswer::Refused(refusal_at(refusals::RECORD_BROKEN, broken))
-                }
-                Split::Whole(records, found) => CountAnswer::Records(tag, start, length, records),
-            }
-        }
-    }
+    let frame = locate(buffer, used, number)?;
+    let split = divide(records_of(buffer, frame), frame.start, 0)?;
+    Ok(Counted {
+        frame,
+        records: split.count,
+    })
 }
 
 // ---- the record walker
 // The record at `place` of the frame whose records end at `end`, and the next place.
-pub fn next_record(buffer: &[u8], end: usize, place: usize) -> RecordStep
-    ensures { result ≡ next_record buffer.now end place }
+pub fn next_record(buffer: &[u8], end: usize, place: usize) -> Result<NextRecord, Refusal>
+    ensures { step_of result ≡ next_record buffer.now end place }
 {
     if frames::is_unfit(buffer, end) {
-        return RecordStep::Refused(refusal_at(refusals::BUFFER_BAD, 0));
+        return Err(Refusal::at(Reason::BufferBad, 0));
     }
     if end <= place {
-        return RecordStep::Refused(refusal_at(refusals::NO_SUCH_RECORD, place));
+        return Err(Refusal::at(Reason::NoSuchRecord, place));
     }
-    let size = frames::record_size(&buffer[place..end]);
-    if size == 0 {
-        return RecordStep::Refused(refusal_at(refusals::RECORD_BROKEN, place));
-    }
-    let next = place + size;
-    match frames::read_record(&buffer[place..end]) {
-        RecordFields::Memory(address, length) => {
-            let bytes = place + frames::MEMORY_HEADER;
-            RecordStep::Memory(address, length, bytes, next)
-        }
-        RecordFields::Variable(number, value) => RecordStep::Variable(number, value, next),
-    }
+    let bytes = &buffer[place..end];
+    let Some(size) = frames::record_size(bytes) else {
+        return Err(Refusal::at(Reason::RecordBroken, place));
+    };
+    let record = found_at(bytes, place);
+    Ok(NextRecord {
+        record,
+        next: place + size,
+    })
 }

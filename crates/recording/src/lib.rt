@@ -2,317 +2,185 @@
 // the whole buffer.
 #![tactic(auto)]
 
-ghost use Rattle.std.specs.Prelude.{◌≡◌, ◌-◌, ◌≤◌, min, length};
+ghost use Rattle.std.specs.Prelude.{Ok, Err, IfSome, MatchOption, ◌≡◌, ◌+◌, ◌-◌, ◌^◌, ◌≤◌, ◌<◌, length};
+ghost use Rattle.refusals.specs.declared.Reason.TheVariants.{BufferFull};
 ghost use Rattle.sizes.specs.Sizes.{record_most};
 ghost use Rattle.isa.specs.Classes.{trace, tracenz, trace_quick, tracev};
 ghost use Rattle.isa.specs.Decode.{operand};
 ghost use Rattle.isa.specs.Joining.Held.{held};
-ghost use Rattle.memory.specs.Spans.{target, spans_refusal};
+ghost use Rattle.memory.specs.Spans.{target_of};
 ghost use Rattle.frames.specs.Record.{memory, variable};
 ghost use Rattle.machine.specs.Recording.{fitting, range_made, to_zero_made};
 ghost use Rattle.machine.specs.Meaning.{trace_done, tracenz_done, trace_quick_done, tracev_done};
 ghost use Rattle.operations.specs.Joining.Here.{Here};
 ghost use Rattle.operations.specs.Joining.Did.{Did};
-ghost use Rattle.recording.specs.Joining.DidMake.{DidMake, NextAfter};
+ghost use Rattle.recording.specs.Joining.DidMake.{DidMake};
 
-use frames::Put;
-use isa::{Stack, opcode};
-use memory::Search;
-use operations::Next;
+use isa::{Cells, Stack, opcode};
+use machine::Fixed;
+use memory::{Memory, Search};
+use operations::Place;
+use refusals::Reason;
 
 // The most bytes that a record holds, as a size is told.
 const RECORD_MOST: u64 = sizes::RECORD_MOST as u64;
 
-// 0 or a refusal's number, and the end of what is written.
-#[derive(Clone, Copy)]
-struct Appended {
-    stop: u8,
-    put: usize,
+// ---- records: the end of what is then written, or 21
+// The end behind what a writer has written after `put`.
+fn behind(written: Option<usize>, put: usize) -> Result<usize, Reason>
+    requires { IfSome written (λ size. put + size < 2 ^ 64) }
+    ensures { MatchOption written (result ≡ Err BufferFull) (λ size. result ≡ Ok (put + size)) }
+{
+    match written {
+        Some(size) => Ok(put + size),
+        None => Err(Reason::BufferFull),
+    }
 }
 
-// ---- records, or 21
-fn record_bytes(buffer: &mut [u8], put: usize, address: u64, bytes: &[u8]) -> Appended
+// Its answer would go through memory: placed inside, a record costs 20 machine instructions less.
+#[inline(always)]
+fn record_bytes(buffer: &mut [u8], put: usize, address: u64, bytes: &[u8]) -> Result<usize, Reason>
     requires room { put ≤ length buffer.old }
     requires size { length bytes.now ≤ record_most }
     ensures { DidMake buffer.old put (fitting (length buffer.old - put) (memory address bytes.now)) result buffer.new }
 {
-    let written = frames::append_memory(buffer, put, address, bytes);
-    match written {
-        Put::Bytes(count) => {
-            let end = put + count;
-            Appended { stop: 0, put: end }
-        }
-        Put::Full => Appended {
-            stop: refusals::BUFFER_FULL,
-            put,
-        },
-    }
+    behind(frames::append_memory(buffer, put, address, bytes), put)
 }
 
-fn record_variable(buffer: &mut [u8], put: usize, number: u32, value: u64) -> Appended
+fn record_variable(buffer: &mut [u8], put: usize, number: u32, value: u64) -> Result<usize, Reason>
     requires { put ≤ length buffer.old }
     ensures { DidMake buffer.old put (fitting (length buffer.old - put) (variable number value)) result buffer.new }
 {
-    let written = frames::append_variable(buffer, put, number, value);
-    match written {
-        Put::Bytes(size) => {
-            let end = put + size;
-            Appended { stop: 0, put: end }
-        }
-        Put::Full => Appended {
-            stop: refusals::BUFFER_FULL,
-            put,
-        },
-    }
+    behind(frames::append_variable(buffer, put, number, value), put)
 }
 
 // ---- ranges: the size is compared as it is, and made narrower only where it is small
-// The `size` bytes at `address`. Neither 12 nor 13 is met, so that the bytes from there to the end of the span decide.
-fn record_range<'a>(
-    image_first: u64,
-    image: &'a [u8],
-    work_first: u64,
-    work: &'a [u8],
+// The `size` bytes at `address`. The bytes from there to the end of the span decide.
+fn record_range(
+    memory: Memory,
     buffer: &mut [u8],
     put: usize,
     address: u64,
     size: u64,
-) -> Appended
-    requires room { put ≤ length buffer.old }
-    requires spans { spans_refusal (target image_first image.now work_first work.now) ≡ 0 }
-    ensures { DidMake buffer.old put (range_made (target image_first image.now work_first work.now) (length buffer.old - put) address size) result buffer.new }
+) -> Result<usize, Reason>
+    requires { put ≤ length buffer.old }
+    ensures { DidMake buffer.old put (range_made (target_of memory.entry.target) (length buffer.old - put) address size) result buffer.new }
 {
     if size == 0 {
-        return Appended { stop: 0, put };
+        return Ok(put);
     }
-    let rest = memory::rest(image_first, image, work_first, work, address);
+    let rest = memory.rest(address);
     if RECORD_MOST < size {
-        let stop = refusals::RECORD_SIZE;
-        return Appended { stop, put };
+        return Err(Reason::RecordSize);
     }
     if (rest.len() as u64) < size {
-        let stop = refusals::RANGE_NOT_READABLE;
-        return Appended { stop, put };
+        return Err(Reason::RangeNotReadable);
     }
-    let count = size as usize;
-    record_bytes(buffer, put, address, &rest[..count])
-}
-
-// The most bytes that are searched.
-fn search_limit(size: u64) -> usize
-    ensures { result ≡ min size record_most }
-{
-    if size < RECORD_MOST {
-        return size as usize;
-    }
-    sizes::RECORD_MOST
+    record_bytes(buffer, put, address, &rest[..size as usize])
 }
 
 // The bytes at `address` up to and with the first zero, `size` at most.
-fn record_to_zero<'a>(
-    image_first: u64,
-    image: &'a [u8],
-    work_first: u64,
-    work: &'a [u8],
+fn record_to_zero(
+    memory: Memory,
     buffer: &mut [u8],
     put: usize,
     address: u64,
     size: u64,
-) -> Appended
-    requires room { put ≤ length buffer.old }
-    requires spans { spans_refusal (target image_first image.now work_first work.now) ≡ 0 }
-    ensures { DidMake buffer.old put (to_zero_made (target image_first image.now work_first work.now) (length buffer.old - put) address size) result buffer.new }
+) -> Result<usize, Reason>
+    requires { put ≤ length buffer.old }
+    ensures { DidMake buffer.old put (to_zero_made (target_of memory.entry.target) (length buffer.old - put) address size) result buffer.new }
 {
     if size == 0 {
-        return Appended { stop: 0, put };
+        return Ok(put);
     }
-    let rest = memory::rest(image_first, image, work_first, work, address);
-    let limit = search_limit(size);
-    let search = memory::find_zero(rest, limit);
-    match search {
+    let rest = memory.rest(address);
+    let limit = size.min(RECORD_MOST) as usize;
+    match memory::find_zero(rest, limit) {
         Search::Found(count) => record_bytes(buffer, put, address, &rest[..count]),
         Search::Reached(count) => {
             if size <= RECORD_MOST {
                 return record_bytes(buffer, put, address, &rest[..count]);
             }
-            Appended {
-                stop: refusals::RECORD_SIZE,
-                put,
-            }
+            Err(Reason::RecordSize)
         }
-        Search::Ended(_) => Appended {
-            stop: refusals::RANGE_NOT_READABLE,
-            put,
-        },
+        Search::Ended(_) => Err(Reason::RangeNotReadable),
     }
 }
 
 // ---- instructions
-// The instruction's answer: on to `next` with the height `after`; where it is refused, the offset and the height stay.
-fn next_after(appended: Appended, at: usize, height: usize, next: usize, after: usize) -> Next
-    ensures { NextAfter appended at height next after result }
-{
-    if appended.stop == 0 {
-        return Next {
-            at: next,
-            height: after,
-            put: appended.put,
-            stop: 0,
-        };
-    }
-    Next {
-        at,
-        height,
-        put: appended.put,
-        stop: appended.stop,
-    }
-}
-
-// trace: the size is on top, the address beneath.
-pub fn do_trace<'a>(
-    rows: &[[u8; 4]; 53],
-    code: &[u8],
-    cells: &[u64; Stack::DEPTH],
-    image_first: u64,
-    image: &'a [u8],
-    work_first: u64,
-    work: &'a [u8],
+// trace: the size is on top, the address beneath. The lines that it shares with tracenz stand in both: a function that is
+// passed the one that records would need more lines for its contract than it saves.
+pub fn do_trace(
+    fixed: Fixed,
+    cells: &Cells,
     buffer: &mut [u8],
-    at: usize,
-    height: usize,
-    put: usize,
-) -> Next
-    requires here { Here rows.now code.now cells.now trace 0x0c at height }
-    requires room { put ≤ length buffer.old }
-    requires spans { spans_refusal (target image_first image.now work_first work.now) ≡ 0 }
-    ensures { Did code.now at put (held cells.now height) buffer.old (trace_done (target image_first image.now work_first work.now) (length buffer.old - put) (held cells.now height)) result cells.now buffer.new }
+    place: Place,
+) -> Result<Place, Reason>
+    requires here { Here fixed.code.now cells.now trace 0x0c place.at place.height }
+    requires room { place.put ≤ length buffer.old }
+    ensures { Did fixed.entry.code.now place (held cells.now place.height) buffer.old (trace_done (target_of fixed.entry.memory.target) (length buffer.old - place.put) (held cells.now place.height)) result cells.now buffer.new }
 {
-    let next = operations::next_of(rows, opcode::TRACE, at);
-    let size = Stack::below(cells, height, 0);
-    let address = Stack::below(cells, height, 1);
-    let appended = record_range(
-        image_first,
-        image,
-        work_first,
-        work,
-        buffer,
-        put,
-        address,
-        size,
-    );
-    let after = operations::height_of(rows, opcode::TRACE, height);
-    next_after(appended, at, height, next, after)
+    let size = Stack::below(cells, place.height, 0);
+    let address = Stack::below(cells, place.height, 1);
+    let put = record_range(fixed.memory, buffer, place.put, address, size)?;
+    Ok(operations::next_place(fixed.rows, opcode::TRACE, Place { put, ..place }))
 }
 
 // tracenz: as trace, up to a zero byte.
-pub fn do_tracenz<'a>(
-    rows: &[[u8; 4]; 53],
-    code: &[u8],
-    cells: &[u64; Stack::DEPTH],
-    image_first: u64,
-    image: &'a [u8],
-    work_first: u64,
-    work: &'a [u8],
+pub fn do_tracenz(
+    fixed: Fixed,
+    cells: &Cells,
     buffer: &mut [u8],
-    at: usize,
-    height: usize,
-    put: usize,
-) -> Next
-    requires here { Here rows.now code.now cells.now tracenz 0x2f at height }
-    requires room { put ≤ length buffer.old }
-    requires spans { spans_refusal (target image_first image.now work_first work.now) ≡ 0 }
-    ensures { Did code.now at put (held cells.now height) buffer.old (tracenz_done (target image_first image.now work_first work.now) (length buffer.old - put) (held cells.now height)) result cells.now buffer.new }
+    place: Place,
+) -> Result<Place, Reason>
+    requires here { Here fixed.code.now cells.now tracenz 0x2f place.at place.height }
+    requires room { place.put ≤ length buffer.old }
+    ensures { Did fixed.entry.code.now place (held cells.now place.height) buffer.old (tracenz_done (target_of fixed.entry.memory.target) (length buffer.old - place.put) (held cells.now place.height)) result cells.now buffer.new }
 {
-    let next = operations::next_of(rows, opcode::TRACENZ, at);
-    let size = Stack::below(cells, height, 0);
-    let address = Stack::below(cells, height, 1);
-    let appended = record_to_zero(
-        image_first,
-        image,
-        work_first,
-        work,
-        buffer,
-        put,
-        address,
-        size,
-    );
-    let after = operations::height_of(rows, opcode::TRACENZ, height);
-    next_after(appended, at, height, next, after)
+    let size = Stack::below(cells, place.height, 0);
+    let address = Stack::below(cells, place.height, 1);
+    let put = record_to_zero(fixed.memory, buffer, place.put, address, size)?;
+    Ok(operations::next_place(fixed.rows, opcode::TRACENZ, Place { put, ..place }))
 }
 
 // trace_quick and trace16: the size is the operand; the address stays on top. The next start is computed last: if the
 // compiler kept it beside the offset while the record is made, every step of a run would cost two machine instructions
 // more. Both rows need and leave one cell. The height is not computed from them: then the compiler would no longer
 // place this function inside `step`.
-pub fn do_trace_quick<'a>(
-    rows: &[[u8; 4]; 53],
-    code: &[u8],
-    cells: &[u64; Stack::DEPTH],
-    image_first: u64,
-    image: &'a [u8],
-    work_first: u64,
-    work: &'a [u8],
+pub fn do_trace_quick(
+    fixed: Fixed,
+    cells: &Cells,
     buffer: &mut [u8],
     opcode: u8,
     count: usize,
-    at: usize,
-    height: usize,
-    put: usize,
-) -> Next
-    requires here { Here rows.now code.now cells.now (trace_quick count) opcode at height }
-    requires room { put ≤ length buffer.old }
-    requires spans { spans_refusal (target image_first image.now work_first work.now) ≡ 0 }
-    ensures { Did code.now at put (held cells.now height) buffer.old (trace_quick_done (target image_first image.now work_first work.now) (length buffer.old - put) (operand code.now at) (held cells.now height)) result cells.now buffer.new }
+    place: Place,
+) -> Result<Place, Reason>
+    requires here { Here fixed.code.now cells.now (trace_quick count) opcode place.at place.height }
+    requires room { place.put ≤ length buffer.old }
+    ensures { Did fixed.entry.code.now place (held cells.now place.height) buffer.old (trace_quick_done (target_of fixed.entry.memory.target) (length buffer.old - place.put) (operand fixed.entry.code.now place.at) (held cells.now place.height)) result cells.now buffer.new }
 {
-    let size = isa::operand_at(code, at, count);
-    let address = Stack::below(cells, height, 0);
-    let appended = record_range(
-        image_first,
-        image,
-        work_first,
-        work,
-        buffer,
-        put,
-        address,
-        size,
-    );
-    let next = operations::next_of(rows, opcode, at);
-    next_after(appended, at, height, next, height)
+    let size = isa::operand_at(fixed.code, place.at, count);
+    let address = Stack::below(cells, place.height, 0);
+    let put = record_range(fixed.memory, buffer, place.put, address, size)?;
+    let at = operations::next_of(fixed.rows, opcode, place.at);
+    Ok(Place { at, put, ..place })
 }
 
 // tracev: the value is recorded and pushed.
 pub fn do_tracev(
-    rows: &[[u8; 4]; 53],
-    code: &[u8],
-    cells: &mut [u64; Stack::DEPTH],
+    fixed: Fixed,
+    cells: &mut Cells,
     variables: &[u64; sizes::VARIABLE_COUNT],
     buffer: &mut [u8],
-    at: usize,
-    height: usize,
-    put: usize,
-) -> Next
-    requires here { Here rows.now code.now cells.old tracev 0x2e at height }
-    requires room { put ≤ length buffer.old }
-    ensures { Did code.now at put (held cells.old height) buffer.old (tracev_done variables.now (length buffer.old - put) (operand code.now at)) result cells.new buffer.new }
+    place: Place,
+) -> Result<Place, Reason>
+    requires here { Here fixed.code.now cells.old tracev 0x2e place.at place.height }
+    requires room { place.put ≤ length buffer.old }
+    ensures { Did fixed.entry.code.now place (held cells.old place.height) buffer.old (tracev_done variables.now (length buffer.old - place.put) (operand fixed.entry.code.now place.at)) result cells.new buffer.new }
 {
-    let next = operations::next_of(rows, opcode::TRACEV, at);
-    let number = isa::operand_at(code, at, 2);
+    let number = isa::operand_at(fixed.code, place.at, 2);
     let value = variables[number as usize];
-    let appended = record_variable(buffer, put, number as u32, value);
-    if appended.stop == 0 {
-        let needed = operations::needed_of(rows, opcode::TRACEV);
-        let after = Stack::replace(cells, height, needed, value);
-        return Next {
-            at: next,
-            height: after,
-            put: appended.put,
-            stop: 0,
-        };
-    }
-    Next {
-        at,
-        height,
-        put: appended.put,
-        stop: appended.stop,
-    }
+    let put = record_variable(buffer, place.put, number as u32, value)?;
+    let recorded = Place { put, ..place };
+    Ok(operations::put_word(fixed.rows, cells, opcode::TRACEV, value, recorded))
 }

@@ -7,7 +7,18 @@ use Prim.Native.Nat.{ℕ, ◌≤◌, zero-le}
 use native.Mathlib.Omega.{arith}
 use lib.Dec.{T, leb, ltb, leb→le, ltb→lt}
 use Rattle.logic.proofs.Promises.{and_left, and_right}
+use Rattle.refusals.specs.Numbers.{number_of}
+use Rattle.refusals.specs.declared.Reason.{Reason}
+use Rattle.refusals.specs.declared.Reason.TheVariants.{ExpressionSize, OpcodeUnknown, OpcodeUnsupported, OperandsCut, OperandBad, JumpNoStart, JumpNotForward, HeightsDiffer, CellsTooFew, CellsTooMany, RunsOff, SpanPastEnd, SpansShare, RegistersMany, BufferBad, AllowanceSpent, DivisorZero, RegisterNotLent, RangeNotReadable, RecordSize, BufferFull, TrailerBroken, RecordBroken, NoSuchFrame, NoSuchRecord}
+use Rattle.refusals.specs.Numbers.{number_of}
 use Rattle.refusals.specs.Tried.{tried, numbered, NoneHolds}
+use Rattle.refusals.specs.declared.Reason.{Reason}
+use Rattle.refusals.specs.declared.Reason.TheVariants.{ExpressionSize}
+
+-- no reason has the number 0
+pub number_some : (r : Reason) → 1 ≤ number_of r
+number_some ExpressionSize = omega arith
+number_some r = omega arith
 
 first_fails : (b : Bool) (r y : ℕ) → T (ltb 0 r) → cond b r y ≡ 0 → (b ≡ false) × (y ≡ 0)
 first_fails true r y t h = absurd (omega (arith, ltb→lt 0 r t))
@@ -46,3 +57,31 @@ tried_most b [] n = zero-le
 tried_most b (t ∷ ts) n =
     chosen_most t.0 b t.1 (tried ts) (leb→le t.1 b (and_left (leb t.1 b) (numbers_at_most b ts) n))
     (tried_most b ts (and_right (leb t.1 b) (numbers_at_most b ts) n))
+
+-- ---- every reason has a number other than 0
+pub reason_some : (r : Reason) → 1 ≤ number_of r
+reason_some ExpressionSize = omega arith
+reason_some OpcodeUnknown = omega arith
+reason_some OpcodeUnsupported = omega arith
+reason_some OperandsCut = omega arith
+reason_some OperandBad = omega arith
+reason_some JumpNoStart = omega arith
+reason_some JumpNotForward = omega arith
+reason_some HeightsDiffer = omega arith
+reason_some CellsTooFew = omega arith
+reason_some CellsTooMany = omega arith
+reason_some RunsOff = omega arith
+reason_some SpanPastEnd = omega arith
+reason_some SpansShare = omega arith
+reason_some RegistersMany = omega arith
+reason_some BufferBad = omega arith
+reason_some AllowanceSpent = omega arith
+reason_some DivisorZero = omega arith
+reason_some RegisterNotLent = omega arith
+reason_some RangeNotReadable = omega arith
+reason_some RecordSize = omega arith
+reason_some BufferFull = omega arith
+reason_some TrailerBroken = omega arith
+reason_some RecordBroken = omega arith
+reason_some NoSuchFrame = omega arith
+reason_some NoSuchRecord = omega arith

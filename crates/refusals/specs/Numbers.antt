@@ -1,5 +1,7 @@
 -- Document 01's table of refusals: a name for each number, with the words of the table.
-use Rattle.std.specs.Prelude.{ℕ}
+use Rattle.std.specs.Prelude.{ℕ, Result, Ok, Err}
+use Rattle.refusals.specs.declared.Reason.{Reason}
+use Rattle.refusals.specs.declared.Reason.TheVariants.{ExpressionSize, OpcodeUnknown, OpcodeUnsupported, OperandsCut, OperandBad, JumpNoStart, JumpNotForward, HeightsDiffer, CellsTooFew, CellsTooMany, RunsOff, SpanPastEnd, SpansShare, RegistersMany, BufferBad, AllowanceSpent, DivisorZero, RegisterNotLent, RangeNotReadable, RecordSize, BufferFull, TrailerBroken, RecordBroken, NoSuchFrame, NoSuchRecord}
 
 -- "0 bytes, or more than 1,024"
 abbrev pub expression_size : ℕ
@@ -89,3 +91,36 @@ no_such_frame = 24
 
 abbrev pub no_such_record : ℕ
 no_such_record = 25
+
+-- the number of a row of the table
+abbrev pub number_of : Reason → ℕ
+number_of ExpressionSize = expression_size
+number_of OpcodeUnknown = opcode_unknown
+number_of OpcodeUnsupported = opcode_unsupported
+number_of OperandsCut = operands_cut
+number_of OperandBad = operand_bad
+number_of JumpNoStart = jump_no_start
+number_of JumpNotForward = jump_not_forward
+number_of HeightsDiffer = heights_differ
+number_of CellsTooFew = cells_too_few
+number_of CellsTooMany = cells_too_many
+number_of RunsOff = runs_off
+number_of SpanPastEnd = span_past_end
+number_of SpansShare = spans_share
+number_of RegistersMany = registers_many
+number_of BufferBad = buffer_bad
+number_of AllowanceSpent = allowance_spent
+number_of DivisorZero = divisor_zero
+number_of RegisterNotLent = register_not_lent
+number_of RangeNotReadable = range_not_readable
+number_of RecordSize = record_size
+number_of BufferFull = buffer_full
+number_of TrailerBroken = trailer_broken
+number_of RecordBroken = record_broken
+number_of NoSuchFrame = no_such_frame
+number_of NoSuchRecord = no_such_record
+
+-- the number of the refusal, or 0 where there is none
+abbrev pub number_or_0 : {A : Type 0} → Result A Reason → ℕ
+number_or_0 (Ok x) = 0
+number_or_0 (Err r) = number_of r

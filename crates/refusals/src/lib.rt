@@ -2,84 +2,73 @@
 #![tactic(auto)]
 
 ghost use Rattle.std.specs.Prelude.{◌≡◌};
-ghost use Rattle.refusals.specs.Refusal.{refusal, refusal_after};
+ghost use Rattle.refusals.specs.Numbers.{number_of};
+ghost use Rattle.refusals.specs.Refusal.{told, refusal, refusal_after};
 
-pub const EXPRESSION_SIZE: u8 = 1;
+// Why something is refused: the rows of document 01's table. The cast to a number gives the table's number.
+#[derive(Clone, Copy, Debug, PartialEq, Eq)]
+pub enum Reason {
+    ExpressionSize = 1,
+    OpcodeUnknown = 2,
+    OpcodeUnsupported = 3,
+    OperandsCut = 4,
+    OperandBad = 5,
+    JumpNoStart = 6,
+    JumpNotForward = 7,
+    HeightsDiffer = 8,
+    CellsTooFew = 9,
+    CellsTooMany = 10,
+    RunsOff = 11,
+    SpanPastEnd = 12,
+    SpansShare = 13,
+    RegistersMany = 14,
+    BufferBad = 15,
+    AllowanceSpent = 16,
+    DivisorZero = 17,
+    RegisterNotLent = 18,
+    RangeNotReadable = 19,
+    RecordSize = 20,
+    BufferFull = 21,
+    TrailerBroken = 22,
+    RecordBroken = 23,
+    NoSuchFrame = 24,
+    NoSuchRecord = 25,
+}
 
-pub const OPCODE_UNKNOWN: u8 = 2;
+impl Reason {
+    // The number of document 01's table.
+    pub fn number(self) -> u8
+        ensures { result ≡ number_of self }
+    {
+        self as u8
+    }
+}
 
-pub const OPCODE_UNSUPPORTED: u8 = 3;
-
-pub const OPERANDS_CUT: u8 = 4;
-
-pub const OPERAND_BAD: u8 = 5;
-
-pub const JUMP_NO_START: u8 = 6;
-
-pub const JUMP_NOT_FORWARD: u8 = 7;
-
-pub const HEIGHTS_DIFFER: u8 = 8;
-
-pub const CELLS_TOO_FEW: u8 = 9;
-
-pub const CELLS_TOO_MANY: u8 = 10;
-
-pub const RUNS_OFF: u8 = 11;
-
-pub const SPAN_PAST_END: u8 = 12;
-
-pub const SPANS_SHARE: u8 = 13;
-
-pub const REGISTERS_MANY: u8 = 14;
-
-pub const BUFFER_BAD: u8 = 15;
-
-pub const ALLOWANCE_SPENT: u8 = 16;
-
-pub const DIVISOR_ZERO: u8 = 17;
-
-pub const REGISTER_NOT_LENT: u8 = 18;
-
-pub const RANGE_NOT_READABLE: u8 = 19;
-
-pub const RECORD_SIZE: u8 = 20;
-
-pub const BUFFER_FULL: u8 = 21;
-
-pub const TRAILER_BROKEN: u8 = 22;
-
-pub const RECORD_BROKEN: u8 = 23;
-
-pub const NO_SUCH_FRAME: u8 = 24;
-
-pub const NO_SUCH_RECORD: u8 = 25;
-
-// Number, offset and steps done. The offset is 0 where a refusal has none, the steps are 0 where nothing ran.
-#[derive(Clone, Copy)]
+// Why something is refused, where, and after how many steps. The offset is 0 where a refusal has none, the steps are 0
+// where nothing ran.
+#[derive(Clone, Copy, Debug, PartialEq, Eq)]
 pub struct Refusal {
-    pub number: u8,
+    pub reason: Reason,
     pub offset: usize,
     pub steps: u64,
 }
 
-// A refusal of what did not run.
-pub fn refusal_at(number: u8, offset: usize) -> Refusal
-    ensures { result ≡ refusal number offset }
-{
-    Refusal {
-        number,
-        offset,
-        steps: 0,
+impl Refusal {
+    // A refusal of what did not run.
+    pub fn at(reason: Reason, offset: usize) -> Refusal
+        ensures { told result ≡ refusal (number_of reason) offset }
+    {
+        Refusal::after(reason, offset, 0)
     }
-}
 
-// A refusal of what ran so many steps.
-pub fn refusal_after(number: u8, offset: usize, steps: u64) -> Refusal
-    ensures { result ≡ refusal_after number offset steps }
-{
-    Refusal {
-        number,
-        offset,
-        steps,
+    // A refusal of what ran so many steps.
+    pub fn after(reason: Reason, offset: usize, steps: u64) -> Refusal
+        ensures { told result ≡ refusal_after (number_of reason) offset steps }
+    {
+        Refusal {
+            reason,
+            offset,
+            steps,
+        }
     }
 }

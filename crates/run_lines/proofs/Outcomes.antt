@@ -1,17 +1,16 @@
 -- What came of a run by what is tested of it. Assumes nothing.
-use Prim.Native.Nat.{ℕ, ◌≤◌, ◌<◌}
+use Prim.Native.Nat.{ℕ, ◌<◌}
 use native.Mathlib.Omega.{arith}
 use mathlib.Core.Bool.{true, false}
 use mathlib.Core.List.{List, [], ◌++◌}
 use mathlib.Core.Path.{◌≡◌, sym, ◌∙◌}
-use lib.Dec.{leb, ltb}
+use lib.Dec.{leb}
 use lib.ListN.{length}
-use borrow.Author.Tests.{eq-eqb, ne_eqb, le-leb, lt-leb, lt-ltb, le-ltb}
+use borrow.Author.Tests.{le-leb, lt-leb}
 use Rattle.logic.proofs.Promises.{cases}
 use Rattle.text_buffer.specs.Text.{bytes_of, Text}
 use Rattle.instruction_text.specs.Text.{is_instruction, plain_at}
-use Rattle.refusals.specs.declared.Refusal.{Refusal}
-use Rattle.refusals.specs.Numbers.{expression_size, span_past_end, buffer_bad}
+use Rattle.refusals.specs.Refusal.{Refusal}
 use Rattle.machine.specs.Machine.{Answer}
 use Rattle.run_lines.specs.Outcome.{completed_by, fits_line, is_narrow, completed_text, is_of_instruction, instruction_line, change_by, change_text}
 
@@ -43,19 +42,6 @@ module _ (j before after : ℕ) where
   change_two q = rw q
 
 -- ---- the instruction of a refused run
-module _ (r : ℕ) where
-  pub of_whole : r ≡ expression_size → false ≡ is_of_instruction r
-  unfolding is_of_instruction
-  of_whole h = rw (eq-eqb r expression_size h)
-
-  pub of_low : (r ≡ expression_size → ⊥) → r < span_past_end → true ≡ is_of_instruction r
-  unfolding is_of_instruction
-  of_low h g = rw (ne_eqb r expression_size h, lt-ltb r span_past_end g)
-
-  pub of_high : (r ≡ expression_size → ⊥) → span_past_end ≤ r → ltb buffer_bad r ≡ is_of_instruction r
-  unfolding is_of_instruction
-  of_high h g = rw (ne_eqb r expression_size h, le-ltb r span_past_end g)
-
 module _ (e : List ℕ) (r : Refusal) where
   pub line_of_none : is_of_instruction r.number ≡ false → [] ≡ instruction_line e r
   unfolding instruction_line

@@ -4,7 +4,7 @@ use Rattle.text_buffer.specs.Text.{bytes_of}
 use Rattle.phrases.specs.Refused.{refusal_of, refused_at}
 use Rattle.text_buffer.specs.Decimal.{decimal}
 use Rattle.instruction_text.specs.Text.{is_instruction, plain_at}
-use Rattle.refusals.specs.declared.Refusal.{Refusal}
+use Rattle.refusals.specs.Refusal.{Refusal}
 use Rattle.refusals.specs.Numbers.{expression_size, span_past_end, buffer_bad}
 use Rattle.machine.specs.Machine.{Answer, no_value, top, top_and_beneath}
 use Rattle.runner.specs.Returned.{Returned, completed_with, refused_with}

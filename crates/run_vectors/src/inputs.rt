@@ -1,11 +1,8 @@
-// What a run is given, as the fields of a line say. A function that fills an array answers how many
-// places it has filled, and more than the array has where the field is out of form.
+// What a run is given, as the fields of a line say. A function that fills an array answers the part that it has filled,
+// or none where the field is out of form.
 ghost use Rattle.std.specs.Prelude.{◌≡◌, length};
 
-use crate::fields::{
-    BROKEN, first_part, is_none, is_number, is_whole, number_of, other_parts, second_start, size_of,
-};
-use hexadecimal::HexAnswer;
+use crate::fields::{cut, number_of, size_of};
 
 // Room for the longest span, and for the longest buffer. They are made here alone, since the check of
 // a long array is slow.
@@ -21,16 +18,14 @@ pub fn buffer_room() -> [u8; 65537]
     [0; 65537]
 }
 
-pub fn put_bytes(text: &[u8], out: &mut [u8]) -> usize {
-    if text.len() == 0 {
-        return BROKEN;
-    }
-    if is_none(text) {
-        return 0;
-    }
-    match hexadecimal::decode(text, out) {
-        HexAnswer::Bytes(n) => n,
-        _ => BROKEN,
+pub fn put_bytes<'a>(text: &[u8], out: &'a mut [u8]) -> Option<&'a [u8]> {
+    match text {
+        [] => None,
+        b"-" => Some(&out[..0]),
+        _ => {
+            let count = hexadecimal::decode(text, out).ok()?;
+            out.get(..count)
+        }
     }
 }
 
@@ -39,45 +34,24 @@ fn pattern_byte(i: usize) -> u8 {
     ((i % 251 * 13 + 1) % 251 + 1) as u8
 }
 
-fn put_pattern(out: &mut [u8], count: usize) {
-    let mut i = 0;
-    while i < out.len() {
-        if i == count {
-            return;
-        }
-        out[i] = pattern_byte(i);
-        i += 1;
-    }
-}
-
-// Puts a zero byte at the place that a text names.
-fn put_zero(text: &[u8], out: &mut [u8], count: usize) -> usize {
-    let place = size_of(text);
-    if out.len() <= place {
-        return BROKEN;
-    }
-    out[place] = 0;
-    count
-}
-
 // COUNT or COUNT,PLACE
-fn put_patterned(text: &[u8], out: &mut [u8]) -> usize {
-    let count = size_of(first_part(text, b','));
-    put_pattern(out, count);
-    if is_whole(text, b',') {
-        return count;
+fn put_pattern<'a>(text: &[u8], out: &'a mut [u8]) -> Option<&'a [u8]> {
+    let (count, place) = cut(text, b',');
+    let count = size_of(count)?;
+    for (i, byte) in out.get_mut(..count)?.iter_mut().enumerate() {
+        *byte = pattern_byte(i);
     }
-    put_zero(other_parts(text, b','), out, count)
+    if let Some(place) = place {
+        *out.get_mut(size_of(place)?)? = 0;
+    }
+    out.get(..count)
 }
 
-pub fn put_span(text: &[u8], out: &mut [u8]) -> usize {
-    if text.len() == 0 {
-        return BROKEN;
+pub fn put_span<'a>(text: &[u8], out: &'a mut [u8]) -> Option<&'a [u8]> {
+    match text {
+        [b'+', ..] => put_pattern(&text[1..], out),
+        _ => put_bytes(text, out),
     }
-    if text[0] == b'+' {
-        return put_patterned(&text[1..], out);
-    }
-    put_bytes(text, out)
 }
 
 // (i * 7 + 3) mod 256
@@ -86,91 +60,48 @@ fn buffer_byte(i: usize) -> u8 {
 }
 
 pub fn put_buffer(out: &mut [u8]) {
-    let mut i = 0;
-    while i < out.len() {
-        out[i] = buffer_byte(i);
-        i += 1;
+    for (i, byte) in out.iter_mut().enumerate() {
+        *byte = buffer_byte(i);
     }
 }
 
 fn put_counted(out: &mut [u64]) {
-    let mut value = 0;
-    let mut i = 0;
-    while i < out.len() {
-        out[i] = value;
-        value = std::num::wrapping_add_u64(value, 0x0101_0101_0101_0101);
-        i += 1;
+    let mut next: u64 = 0;
+    for value in out.iter_mut() {
+        *value = next;
+        next = next.wrapping_add(0x0101_0101_0101_0101);
     }
 }
 
-fn put_listed(text: &[u8], out: &mut [u64]) -> usize {
-    let mut rest = text;
-    let mut n = 0;
-    while n < out.len() {
-        if !is_number(first_part(rest, b',')) {
-            return BROKEN;
+fn put_listed<'a>(text: &[u8], out: &'a mut [u64]) -> Option<&'a [u64]> {
+    let mut count = 0;
+    for (i, part) in text.split(|c| *c == b',').enumerate() {
+        *out.get_mut(i)? = number_of(part)?;
+        count = i + 1;
+    }
+    out.get(..count)
+}
+
+pub fn put_registers<'a>(text: &[u8], out: &'a mut [u64]) -> Option<&'a [u64]> {
+    match text {
+        [] => None,
+        b"-" => Some(&out[..0]),
+        [b'*', ..] => {
+            put_counted(out);
+            out.get(..size_of(&text[1..])?)
         }
-        out[n] = number_of(first_part(rest, b','));
-        n += 1;
-        if is_whole(rest, b',') {
-            return n;
-        }
-        let next = second_start(rest, b',');
-        rest = &rest[next..];
+        _ => put_listed(text, out),
     }
-    BROKEN
 }
 
-pub fn put_registers(text: &[u8], out: &mut [u64]) -> usize {
-    if text.len() == 0 {
-        return BROKEN;
+// NUMBER=VALUE, divided by commas.
+pub fn put_variables(text: &[u8], out: &mut [u64; sizes::VARIABLE_COUNT]) -> Option<()> {
+    if text == b"-".as_slice() {
+        return Some(());
     }
-    if is_none(text) {
-        return 0;
+    for setting in text.split(|c| *c == b',') {
+        let (number, value) = cut(setting, b'=');
+        *out.get_mut(size_of(number)?)? = number_of(value?)?;
     }
-    if text[0] == b'*' {
-        put_counted(out);
-        return size_of(&text[1..]);
-    }
-    put_listed(text, out)
-}
-
-// NUMBER=VALUE; with no mark there is no value.
-fn put_variable(text: &[u8], out: &mut [u64; sizes::VARIABLE_COUNT]) -> bool {
-    let number = size_of(first_part(text, b'='));
-    if sizes::VARIABLE_COUNT <= number {
-        return false;
-    }
-    let value = other_parts(text, b'=');
-    if !is_number(value) {
-        return false;
-    }
-    out[number] = number_of(value);
-    true
-}
-
-// The turns are for the proof that the loop ends: there are fewer settings than characters.
-fn put_each(text: &[u8], out: &mut [u64; sizes::VARIABLE_COUNT]) -> bool {
-    let mut rest = text;
-    let mut turns = text.len();
-    while turns > 0 {
-        if !put_variable(first_part(rest, b','), out) {
-            return false;
-        }
-        if is_whole(rest, b',') {
-            return true;
-        }
-        let next = second_start(rest, b',');
-        rest = &rest[next..];
-        turns -= 1;
-    }
-    false
-}
-
-// Whether the field is of the form; the variables are set as it says.
-pub fn put_variables(text: &[u8], out: &mut [u64; sizes::VARIABLE_COUNT]) -> bool {
-    if is_none(text) {
-        return true;
-    }
-    put_each(text, out)
+    Some(())
 }

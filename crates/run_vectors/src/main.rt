@@ -15,279 +15,161 @@ mod fields;
 mod inputs;
 mod text;
 
+ghost use Rattle.std.specs.Prelude.{IfSome};
 ghost use Rattle.io.specs.Counts.{IsPrefixLen};
 
-use fields::{field, is_last, is_number, number_of};
+use fields::{number_of, size_of};
 use inputs::{
     buffer_room, put_buffer, put_bytes, put_registers, put_span, put_variables, span_room,
 };
-use runner::Outcome;
+use lines::{LineError, Lines};
+use machine::Inputs;
+use memory::{Span, Target};
 use std::io::Error;
 use text::{append_broken, append_buffer, append_outcome, append_variables};
-use text_buffer::append;
+use text_buffer::TextBuffer;
 
-fn number_at(line: &[u8], place: usize) -> u64 {
-    number_of(field(line, place))
-}
-
-// `is_case` has bounded the number; the remainder is for the proof that it fits.
-fn tracepoint_at(line: &[u8]) -> u16 {
-    (number_at(line, 7) % 0x1_0000) as u16
-}
-
-fn run_given<'a>(
-    line: &[u8],
-    code: &[u8],
-    registers: &[u64],
+// A case: fields that fill arrays as they stand in the line, and the numbers.
+#[derive(Clone, Copy)]
+struct Case<'a> {
+    code: &'a [u8],
+    registers: &'a [u8],
+    variables: &'a [u8],
+    image_first: u64,
     image: &'a [u8],
+    work_first: u64,
     work: &'a [u8],
-    variables: &mut [u64; sizes::VARIABLE_COUNT],
-    buffer: &mut [u8],
-) -> Outcome {
-    runner::run(
-        code,
-        registers,
-        number_at(line, 3),
-        image,
-        number_at(line, 5),
-        work,
-        variables,
-        buffer,
-        number_at(line, 9) as usize,
-        tracepoint_at(line),
-        number_at(line, 10),
-    )
-}
-
-fn run_default<'a>(
-    line: &[u8],
-    code: &[u8],
-    registers: &[u64],
-    image: &'a [u8],
-    work: &'a [u8],
-    variables: &mut [u64; sizes::VARIABLE_COUNT],
-    buffer: &mut [u8],
-) -> Outcome {
-    runner::run_default(
-        code,
-        registers,
-        number_at(line, 3),
-        image,
-        number_at(line, 5),
-        work,
-        variables,
-        buffer,
-        number_at(line, 9) as usize,
-        tracepoint_at(line),
-    )
-}
-
-// An allowance that is no number is `default`.
-fn run_case<'a>(
-    line: &[u8],
-    code: &[u8],
-    registers: &[u64],
-    image: &'a [u8],
-    work: &'a [u8],
-    variables: &mut [u64; sizes::VARIABLE_COUNT],
-    buffer: &mut [u8],
-) -> Outcome {
-    if is_number(field(line, 10)) {
-        return run_given(line, code, registers, image, work, variables, buffer);
-    }
-    run_default(line, code, registers, image, work, variables, buffer)
-}
-
-fn append_left(
-    out: &mut [u8],
-    outcome: Outcome,
-    variables: &[u64; sizes::VARIABLE_COUNT],
-    buffer: &[u8],
+    tracepoint: u16,
+    length: usize,
     used: usize,
-) -> usize
-    ensures { IsPrefixLen result out.new }
-{
-    let a = append_outcome(out, outcome, used);
-    let b = append_variables(out, a, variables);
-    append_buffer(out, b, buffer, used)
+    // None is `default`.
+    allowance: Option<u64>,
 }
 
-fn append_by_buffer<'a>(
-    out: &mut [u8],
-    line: &[u8],
-    code: &[u8],
-    registers: &[u64],
-    image: &'a [u8],
-    work: &'a [u8],
-    buffer: &mut [u8],
-) -> usize
-    ensures { IsPrefixLen result out.new }
-{
-    let mut variables = [0u64; sizes::VARIABLE_COUNT];
-    if !put_variables(field(line, 2), &mut variables) {
-        return append_broken(out);
+fn allowance_of(text: &[u8]) -> Option<Option<u64>> {
+    if text == b"default".as_slice() {
+        return Some(None);
     }
-    let outcome = run_case(line, code, registers, image, work, &mut variables, buffer);
-    let used = number_at(line, 9) as usize;
-    append_left(out, outcome, &variables, buffer, used)
+    Some(Some(number_of(text)?))
 }
 
-fn append_by_work<'a>(
-    out: &mut [u8],
-    line: &[u8],
-    code: &[u8],
-    registers: &[u64],
-    image: &'a [u8],
-    work: &'a [u8],
-) -> usize
-    ensures { IsPrefixLen result out.new }
-{
-    let mut buffer = buffer_room();
-    let n = number_at(line, 8) as usize;
-    if 65537 < n {
-        return append_broken(out);
+fn case_of<'a>(line: &'a [u8]) -> Option<Case<'a>> {
+    let mut fields = line.split(|c| *c == b' ');
+    let case = Case {
+        code: fields.next()?,
+        registers: fields.next()?,
+        variables: fields.next()?,
+        image_first: number_of(fields.next()?)?,
+        image: fields.next()?,
+        work_first: number_of(fields.next()?)?,
+        work: fields.next()?,
+        tracepoint: u16::try_from(number_of(fields.next()?)?).ok()?,
+        length: size_of(fields.next()?)?,
+        used: size_of(fields.next()?)?,
+        allowance: allowance_of(fields.next()?)?,
+    };
+    if fields.next().is_some() {
+        return None;
     }
-    put_buffer(&mut buffer);
-    append_by_buffer(out, line, code, registers, image, work, &mut buffer[0..n])
+    Some(case)
 }
 
-fn append_by_image(
-    out: &mut [u8],
-    line: &[u8],
-    code: &[u8],
-    registers: &[u64],
+// The case, run in this memory and with this buffer. None, here and below, where a field is out of form, and then
+// nothing is appended. Each long array is made in a function of its own, since the check of more of them in one is slow.
+fn append_run(
+    text: &mut TextBuffer,
+    case: Case,
     image: &[u8],
-) -> usize
-    ensures { IsPrefixLen result out.new }
-{
-    let mut work = span_room();
-    let n = put_span(field(line, 6), &mut work);
-    if 131072 < n {
-        return append_broken(out);
-    }
-    append_by_work(out, line, code, registers, image, &work[0..n])
-}
-
-fn append_by_registers(out: &mut [u8], line: &[u8], code: &[u8], registers: &[u64]) -> usize
-    ensures { IsPrefixLen result out.new }
-{
-    let mut image = span_room();
-    let n = put_span(field(line, 4), &mut image);
-    if 131072 < n {
-        return append_broken(out);
-    }
-    append_by_image(out, line, code, registers, &image[0..n])
-}
-
-fn append_by_code(out: &mut [u8], line: &[u8], code: &[u8]) -> usize
-    ensures { IsPrefixLen result out.new }
-{
-    let mut registers = [0u64; 257];
-    let n = put_registers(field(line, 1), &mut registers);
-    if 257 < n {
-        return append_broken(out);
-    }
-    append_by_registers(out, line, code, &registers[0..n])
-}
-
-fn append_case(out: &mut [u8], line: &[u8]) -> usize
-    ensures { IsPrefixLen result out.new }
+    work: &[u8],
+    buffer: &mut [u8],
+) -> Option<()>
+    ensures { IfSome result (λ _. IsPrefixLen text.new.end text.new.bytes.now) }
 {
     let mut code = [0u8; 2048];
-    let n = put_bytes(field(line, 0), &mut code);
-    if 2048 < n {
-        return append_broken(out);
-    }
-    append_by_code(out, line, &code[0..n])
+    let mut registers = [0u64; 257];
+    let mut variables = [0u64; sizes::VARIABLE_COUNT];
+    put_variables(case.variables, &mut variables)?;
+    let inputs = Inputs {
+        code: put_bytes(case.code, &mut code)?,
+        registers: put_registers(case.registers, &mut registers)?,
+        target: Target {
+            image: Span {
+                first: case.image_first,
+                bytes: image,
+            },
+            work: Span {
+                first: case.work_first,
+                bytes: work,
+            },
+        },
+        used: case.used,
+        tracepoint: case.tracepoint,
+    };
+    let outcome = match case.allowance {
+        Some(allowance) => runner::run(inputs, &mut variables, buffer, allowance),
+        None => runner::run_default(inputs, &mut variables, buffer),
+    };
+    append_outcome(text, outcome, case.used);
+    append_variables(text, &variables);
+    append_buffer(text, buffer, case.used);
+    Some(())
 }
 
-fn is_same(text: &[u8], other: &[u8]) -> bool {
-    if text.len() != other.len() {
-        return false;
-    }
-    let mut i = 0;
-    while i < text.len() {
-        if text[i] != other[i] {
-            return false;
-        }
-        i += 1;
-    }
-    true
-}
-
-fn is_allowance(text: &[u8]) -> bool {
-    if is_number(text) {
-        return true;
-    }
-    is_same(text, b"default")
-}
-
-// Whether the fields that are numbers are of the form.
-fn has_numbers(line: &[u8]) -> bool {
-    if !is_number(field(line, 3)) {
-        return false;
-    }
-    if !is_number(field(line, 5)) {
-        return false;
-    }
-    if !is_number(field(line, 7)) {
-        return false;
-    }
-    if !is_number(field(line, 8)) {
-        return false;
-    }
-    if !is_number(field(line, 9)) {
-        return false;
-    }
-    is_allowance(field(line, 10))
-}
-
-fn is_case(line: &[u8]) -> bool {
-    if !is_last(line, 10) {
-        return false;
-    }
-    if !has_numbers(line) {
-        return false;
-    }
-    number_at(line, 7) < 0x1_0000
-}
-
-fn append_line(out: &mut [u8], line: &[u8]) -> usize
-    ensures { IsPrefixLen result out.new }
+fn append_by_work(text: &mut TextBuffer, case: Case, image: &[u8], work: &[u8]) -> Option<()>
+    ensures { IfSome result (λ _. IsPrefixLen text.new.end text.new.bytes.now) }
 {
-    if is_case(line) {
-        return append_case(out, line);
+    let mut room = buffer_room();
+    let buffer = room.get_mut(..case.length)?;
+    put_buffer(buffer);
+    append_run(text, case, image, work, buffer)
+}
+
+fn append_by_image(text: &mut TextBuffer, case: Case, image: &[u8]) -> Option<()>
+    ensures { IfSome result (λ _. IsPrefixLen text.new.end text.new.bytes.now) }
+{
+    let mut room = span_room();
+    append_by_work(text, case, image, put_span(case.work, &mut room)?)
+}
+
+fn append_case(text: &mut TextBuffer, line: &[u8]) -> Option<()>
+    ensures { IfSome result (λ _. IsPrefixLen text.new.end text.new.bytes.now) }
+{
+    let case = case_of(line)?;
+    let mut room = span_room();
+    append_by_image(text, case, put_span(case.image, &mut room)?)
+}
+
+fn append_line(text: &mut TextBuffer, line: &[u8])
+    ensures { IsPrefixLen text.new.end text.new.bytes.now }
+{
+    match append_case(text, line) {
+        Some(()) => (),
+        None => append_broken(text),
     }
-    append_broken(out)
 }
 
 fn print_answer(rt: &impl Print, line: &[u8]) -> Result<(), Error> {
-    let mut out = [0u8; 4096];
-    let n = append_line(&mut out, line);
-    let end = append(&mut out, n, b"\n");
-    rt.write_all(&out[..end])
+    let mut room = [0u8; 4096];
+    let mut text = TextBuffer::new(&mut room);
+    append_line(&mut text, line);
+    text.append(b"\n");
+    rt.write_all(text.written())
 }
 
-// The answer to a line of `len` characters. The buffer holds them all unless it is too short; then
-// the line is broken, as an empty one is.
-fn answer(rt: &impl Print, text: &[u8], len: usize) -> Result<(), Error> {
-    if text.len() < len {
-        return print_answer(rt, &text[0..0]);
-    }
-    print_answer(rt, &text[0..len])
-}
-
+// A line that is too long is broken, as an empty one is. Where a read fails in a line, what had come of it is answered,
+// and the next line is asked for.
 // The loop has a last turn for the proof that it ends; no input comes to it.
 fn main(rt: HostRuntime) -> Result<(), Error> {
     let mut input = io::large_buffer();
     let mut text = [0u8; 4096];
-    let mut line = lines::start(&rt);
+    let mut lines = Lines::new(rt.stdin(), &mut input);
     for _ in 0..u64::MAX {
-        line = lines::next(&mut input, &mut text, line);
-        if !line.is_line {
-            break;
+        match lines.next(&mut text) {
+            Ok(Some(line)) => print_answer(&rt, line)?,
+            Ok(None) | Err(LineError::Failed(_, Some(0))) => break,
+            Err(LineError::Failed(_, Some(n))) => print_answer(&rt, text.get(..n).unwrap_or(&[]))?,
+            Err(LineError::TooLong | LineError::Failed(_, None)) => print_answer(&rt, b"")?,
         }
-        answer(&rt, &text, line.len)?;
     }
     Ok(())
 }

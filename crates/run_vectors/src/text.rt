@@ -2,180 +2,145 @@
 ghost use Rattle.io.specs.Counts.{IsPrefixLen};
 
 use refusals::Refusal;
-use runner::{Outcome, Value};
-use text_buffer::append;
+use runner::{Completed, Value};
+use text_buffer::TextBuffer;
 
-fn append_digits(out: &mut [u8], at: usize, number: u64, width: usize) -> usize
-    ensures { IsPrefixLen result out.new }
+fn append_digits(text: &mut TextBuffer, number: u64, width: usize)
+    ensures { IsPrefixLen text.new.end text.new.bytes.now }
 {
     let mut figures = [0u8; 16];
     let k = io::hex(number, width, &mut figures);
-    append(out, at, &figures[..k])
+    text.append(&figures[..k]);
 }
 
-fn append_mark(out: &mut [u8], at: usize, mark: u8) -> usize
-    ensures { IsPrefixLen result out.new }
+fn append_mark(text: &mut TextBuffer, mark: u8)
+    ensures { IsPrefixLen text.new.end text.new.bytes.now }
 {
     let marks = [mark];
-    append(out, at, &marks)
+    text.append(&marks);
 }
 
 // A number with a mark before it.
-fn append_number(out: &mut [u8], at: usize, mark: u8, number: u64) -> usize
-    ensures { IsPrefixLen result out.new }
+fn append_number(text: &mut TextBuffer, mark: u8, number: u64)
+    ensures { IsPrefixLen text.new.end text.new.bytes.now }
 {
-    let a = append_mark(out, at, mark);
-    append_digits(out, a, number, 1)
+    append_mark(text, mark);
+    append_digits(text, number, 1);
 }
 
-fn append_pairs(out: &mut [u8], at: usize, bytes: &[u8]) -> usize
-    ensures { IsPrefixLen result out.new }
+fn append_pairs(text: &mut TextBuffer, bytes: &[u8])
+    ensures { IsPrefixLen text.new.end text.new.bytes.now }
 {
-    let mut n = append_mark(out, at, b' ');
-    let mut i = 0;
-    while i < bytes.len() {
-        n = append_digits(out, n, encoding::wide(bytes[i]), 2);
-        i += 1;
+    append_mark(text, b' ');
+    for byte in bytes {
+        append_digits(text, u64::from(*byte), 2);
     }
-    n
 }
 
-fn append_bytes(out: &mut [u8], at: usize, bytes: &[u8]) -> usize
-    ensures { IsPrefixLen result out.new }
+fn append_bytes(text: &mut TextBuffer, bytes: &[u8])
+    ensures { IsPrefixLen text.new.end text.new.bytes.now }
 {
-    if bytes.len() == 0 {
-        return append(out, at, b" -");
+    if bytes.is_empty() {
+        text.append(b" -");
+        return;
     }
-    append_pairs(out, at, bytes)
+    append_pairs(text, bytes);
 }
 
-pub fn append_broken(out: &mut [u8]) -> usize
-    ensures { IsPrefixLen result out.new }
+pub fn append_broken(text: &mut TextBuffer)
+    ensures { IsPrefixLen text.new.end text.new.bytes.now }
 {
-    append(out, 0, b"bad line")
+    text.append(b"bad line");
 }
 
-fn append_two(out: &mut [u8], at: usize, top: u64, beneath: u64) -> usize
-    ensures { IsPrefixLen result out.new }
+fn append_two(text: &mut TextBuffer, top: u64, beneath: u64)
+    ensures { IsPrefixLen text.new.end text.new.bytes.now }
 {
-    let a = append_number(out, at, b' ', top);
-    append_number(out, a, b',', beneath)
+    append_number(text, b' ', top);
+    append_number(text, b',', beneath);
 }
 
-fn append_value(out: &mut [u8], at: usize, value: Value) -> usize
-    ensures { IsPrefixLen result out.new }
+fn append_value(text: &mut TextBuffer, value: Value)
+    ensures { IsPrefixLen text.new.end text.new.bytes.now }
 {
     match value {
-        Value::Nothing => append(out, at, b" none"),
-        Value::Top(top) => append_number(out, at, b' ', top),
-        Value::TopAndBeneath(top, beneath) => append_two(out, at, top, beneath),
+        Value::Nothing => text.append(b" none"),
+        Value::Top(top) => append_number(text, b' ', top),
+        Value::TopAndBeneath(top, beneath) => append_two(text, top, beneath),
     }
 }
 
-fn append_completed(out: &mut [u8], value: Value, steps: u64, used: usize) -> usize
-    ensures { IsPrefixLen result out.new }
+fn append_completed(text: &mut TextBuffer, completed: Completed)
+    ensures { IsPrefixLen text.new.end text.new.bytes.now }
 {
-    let start = append(out, 0, b"completed");
-    let a = append_number(out, start, b' ', steps);
-    let b = append_value(out, a, value);
-    append_number(out, b, b' ', used as u64)
+    text.append(b"completed");
+    append_number(text, b' ', completed.steps);
+    append_value(text, completed.value);
+    append_number(text, b' ', completed.used as u64);
 }
 
-fn append_refused(out: &mut [u8], refusal: Refusal, used: usize) -> usize
-    ensures { IsPrefixLen result out.new }
+fn append_refused(text: &mut TextBuffer, refusal: Refusal, used: usize)
+    ensures { IsPrefixLen text.new.end text.new.bytes.now }
 {
-    let start = append(out, 0, b"refused");
-    let a = append_number(out, start, b' ', encoding::wide(refusal.number));
-    let b = append_number(out, a, b' ', refusal.offset as u64);
-    let c = append_number(out, b, b' ', refusal.steps);
-    append_number(out, c, b' ', used as u64)
+    text.append(b"refused");
+    append_number(text, b' ', u64::from(refusal.reason.number()));
+    append_number(text, b' ', refusal.offset as u64);
+    append_number(text, b' ', refusal.steps);
+    append_number(text, b' ', used as u64);
 }
 
 // `used` is the used length given: a refusal leaves it.
-pub fn append_outcome(out: &mut [u8], outcome: Outcome, used: usize) -> usize
-    ensures { IsPrefixLen result out.new }
+pub fn append_outcome(text: &mut TextBuffer, outcome: Result<Completed, Refusal>, used: usize)
+    ensures { IsPrefixLen text.new.end text.new.bytes.now }
 {
     match outcome {
-        Outcome::Completed(value, steps, end) => append_completed(out, value, steps, end),
-        Outcome::Refused(refusal) => append_refused(out, refusal, used),
+        Ok(completed) => append_completed(text, completed),
+        Err(refusal) => append_refused(text, refusal, used),
     }
 }
 
-fn append_setting(out: &mut [u8], at: usize, mark: u8, number: usize, value: u64) -> usize
-    ensures { IsPrefixLen result out.new }
+fn append_setting(text: &mut TextBuffer, mark: u8, number: usize, value: u64)
+    ensures { IsPrefixLen text.new.end text.new.bytes.now }
 {
-    let a = append_number(out, at, mark, number as u64);
-    append_number(out, a, b'=', value)
+    append_number(text, mark, number as u64);
+    append_number(text, b'=', value);
 }
 
-// `at` is not past the end of the text: the text ends there where the variable is 0.
-fn append_variable(out: &mut [u8], at: usize, mark: u8, number: usize, value: u64) -> usize
-    requires { IsPrefixLen at out.old }
-    ensures { IsPrefixLen result out.new }
+// The variables that are not 0. The first has a space before it, and the others a comma.
+pub fn append_variables(text: &mut TextBuffer, variables: &[u64; sizes::VARIABLE_COUNT])
+    ensures { IsPrefixLen text.new.end text.new.bytes.now }
 {
-    if value == 0 {
-        return at;
-    }
-    append_setting(out, at, mark, number, value)
-}
-
-// The first variable has a space before it, and the others a comma.
-fn next_mark(mark: u8, value: u64) -> u8 {
-    if value == 0 { mark } else { b',' }
-}
-
-// The variables that are not 0.
-pub fn append_variables(
-    out: &mut [u8],
-    at: usize,
-    variables: &[u64; sizes::VARIABLE_COUNT],
-) -> usize
-    ensures { IsPrefixLen result out.new }
-{
-    let mut n = append(out, at, b"");
+    text.append(b"");
     let mut mark = b' ';
-    let mut i = 0;
-    while i < sizes::VARIABLE_COUNT {
-        let value = variables[i];
-        n = append_variable(out, n, mark, i, value);
-        mark = next_mark(mark, value);
-        i += 1;
+    for (i, value) in variables.iter().enumerate() {
+        if *value != 0 {
+            append_setting(text, mark, i, *value);
+            mark = b',';
+        }
     }
     if mark == b' ' {
-        return append(out, n, b" -");
+        text.append(b" -");
     }
-    n
 }
 
 // The 64-bit FNV-1a hash.
 fn sum(bytes: &[u8]) -> u64 {
-    let mut hash = 0xcbf2_9ce4_8422_2325;
-    let mut i = 0;
-    while i < bytes.len() {
-        let mixed = arithmetic::bit_xor(hash, encoding::wide(bytes[i]));
-        hash = arithmetic::mul(mixed, 0x0000_0100_0000_01b3);
-        i += 1;
-    }
-    hash
+    bytes.iter().fold(0xcbf2_9ce4_8422_2325, |hash: u64, byte| {
+        (hash ^ u64::from(*byte)).wrapping_mul(0x0000_0100_0000_01b3)
+    })
 }
 
 // So many bytes of the buffer are shown.
 const HEAD: usize = 32;
 
 fn head_of<'a>(buffer: &'a [u8], used: usize) -> &'a [u8] {
-    if buffer.len() < used {
-        return &buffer[0..0];
-    }
-    let free = &buffer[used..];
-    if free.len() < HEAD {
-        return free;
-    }
-    &free[0..HEAD]
+    let free = buffer.get(used..).unwrap_or(&[]);
+    &free[..free.len().min(HEAD)]
 }
 
-pub fn append_buffer(out: &mut [u8], at: usize, buffer: &[u8], used: usize) -> usize
-    ensures { IsPrefixLen result out.new }
+pub fn append_buffer(text: &mut TextBuffer, buffer: &[u8], used: usize)
+    ensures { IsPrefixLen text.new.end text.new.bytes.now }
 {
-    let a = append_number(out, at, b' ', sum(buffer));
-    append_bytes(out, a, head_of(buffer, used))
+    append_number(text, b' ', sum(buffer));
+    append_bytes(text, head_of(buffer, used));
 }

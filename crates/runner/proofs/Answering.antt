@@ -1,5 +1,4 @@
 -- The answer at an end, and the trailer, from what the code reads and calls.
-use mathlib.Core.Bool.{true}
 use mathlib.Core.List.{List}
 use mathlib.Core.Logic.{◌≢◌}
 use mathlib.Core.Path.{◌≡◌, refl, sym, ap, ◌∙◌}
@@ -9,12 +8,12 @@ use lib.ListN.{length, get_or}
 use Rattle.encoding.specs.Written.{written_at}
 use Rattle.isa.specs.Joining.Held.{held}
 use Rattle.frames.specs.Trailer.{trailer_size, encode_trailer}
-use Rattle.frames.specs.Writing.{written}
+use Rattle.std.specs.Prelude.{Option}
+use borrow.Author.Tests.{le-leb}
+use Rattle.frames.specs.Writing.{written, written_trailer}
 use Rattle.frames.specs.Joining.Answers.{Leaves}
 use Rattle.frames.specs.declared.Tag.{Tag}
-use Rattle.frames.specs.declared.Put.{Put}
-use Rattle.frames.specs.declared.Put.TheVariants.{Bytes, Full}
-use Rattle.frames.proofs.Promises.{trailer_length, wrote, full}
+use Rattle.frames.proofs.Promises.{trailer_length}
 use Rattle.machine.specs.Machine.{no_value, top, top_and_beneath, answer}
 
 pub answer_none : (a : List ℕ) (h : ℕ) → h ≡ 0 → no_value ≡ answer (held a h)
@@ -35,9 +34,6 @@ answer_two a h n m =
     ap (λ (x : ℕ). top_and_beneath (get_or a (x - 1) 0) (get_or a (x - 2) 0)) e ∙ answer_two_by a (h - 2) ∙ ap (λ (x : ℕ). answer (held a x)) (sym e)
 
 -- a trailer that fits is written
-closed_by : (l : List ℕ) (p : ℕ) (t : Tag) (n : ℕ) (r r' : Put) {m : List ℕ} → r' ≡ r → p + trailer_size ≤ length l → Leaves (written true l p (encode_trailer t n)) r' m → m ≡ written_at l p (encode_trailer t n)
-closed_by l p t n (Bytes k) r' q h w = (wrote true l p (encode_trailer t n) w q).bytes
-closed_by l p t n Full r' q h w = absurd (omega (arith, (full true l p (encode_trailer t n) w q).0 refl, trailer_length t n))
-
-pub closed : (l : List ℕ) (p : ℕ) (t : Tag) (n : ℕ) {r : Put} {m : List ℕ} → p + trailer_size ≤ length l → Leaves (written true l p (encode_trailer t n)) r m → m ≡ written_at l p (encode_trailer t n)
-closed l p t n {r} h w = closed_by l p t n r r refl h w
+pub closed : (l : List ℕ) (p : ℕ) (t : Tag) (n : ℕ) {r : Option ℕ} {m : List ℕ} → p + trailer_size ≤ length l → Leaves (written_trailer l p t n) r m → m ≡ written_at l p (encode_trailer t n)
+unfolding written
+closed l p t n h w = w.bytes ∙ rw (le-leb (p + length (encode_trailer t n)) (length l) (omega (arith, h, trailer_length t n))) refl

@@ -7,8 +7,9 @@ use mathlib.Core.Path.{◌≡◌}
 use Prim.Native.Nat.{ℕ, ◌+◌, ◌≤◌}
 use lib.ListN.{length}
 use Rattle.sizes.specs.Sizes.{buffer_most}
+use Rattle.std.specs.Prelude.{Result, Ok, Err}
 use Rattle.refusals.specs.declared.Refusal.{Refusal}
-use Rattle.refusals.specs.Numbers.{allowance_spent}
+use Rattle.refusals.specs.Numbers.{number_of, allowance_spent}
 use Rattle.encoding.specs.Written.{written_at}
 use Rattle.frames.specs.Record.{encode_all}
 use Rattle.verdict.specs.Verdict.{accepted, verdict}
@@ -17,14 +18,12 @@ use Rattle.machine.specs.Run.{ended, steps_of}
 use Rattle.machine.specs.Recorded.{AllFromTarget, records_of, frame_of}
 use Rattle.machine.proofs.Promises.{records_from_target}
 use Rattle.runner.specs.Returned.{Ran, steps_reported}
-use Rattle.runner.specs.declared.Value.{Value}
-use Rattle.runner.specs.declared.Outcome.{Outcome}
-use Rattle.runner.specs.declared.Outcome.TheVariants.{Completed, Refused}
+use Rattle.runner.specs.declared.Completed.{Completed}
 use Rattle.runner.proofs.Reporting as reporting
 -- is-accepted: what the verifier accepts is accepted, as the functions behind the entries ask it
 pub use Rattle.runner.proofs.Entering.{is_accepted}
 
-module _ {g : Given} {r : Outcome} {v b : List ℕ} (ran : Ran g r v b) where
+module _ {g : Given} {r : Result Completed Refusal} {v b : List ℕ} (ran : Ran g r v b) where
   -- ---- R2, demand 3: the steps are the machine's, at most the allowance, and at most the longest walk that the
   -- verifier told
   pub steps_machine : steps_reported r ≡ steps_of (ended g)
@@ -37,7 +36,7 @@ module _ {g : Given} {r : Outcome} {v b : List ℕ} (ran : Ran g r v b) where
   steps_longest = reporting.steps_longest ran
 
   -- an allowance of at least the longest walk is never refused for allowance
-  pub allowance_enough : {n h l : ℕ} → verdict g.expression ≡ accepted n h l → l ≤ g.allowance → {x : Refusal} → r ≡ Refused x → x.number ≢ allowance_spent
+  pub allowance_enough : {n h l : ℕ} → verdict g.expression ≡ accepted n h l → l ≤ g.allowance → {x : Refusal} → r ≡ Err x → number_of x.reason ≢ allowance_spent
   allowance_enough = reporting.allowance_enough ran
 
   -- ---- R3: every memory record holds exactly the target's bytes at its address
@@ -45,14 +44,14 @@ module _ {g : Given} {r : Outcome} {v b : List ℕ} (ran : Ran g r v b) where
   target_bytes = records_from_target g
 
   -- ---- R4: a refused run leaves the variables as given, and in the buffer the records completed and no other byte
-  pub refused_leaves : {x : Refusal} → r ≡ Refused x → (v ≡ g.variables) × (b ≡ written_at g.buffer g.used (encode_all (records_of (ended g))))
+  pub refused_leaves : {x : Refusal} → r ≡ Err x → (v ≡ g.variables) × (b ≡ written_at g.buffer g.used (encode_all (records_of (ended g))))
   refused_leaves = reporting.refused_leaves ran
 
-  module _ (a : Value) {s w : ℕ} (q : r ≡ Completed a s w) where
+  module _ {c : Completed} (q : r ≡ Ok c) where
     -- a completed run leaves one frame of its records and no other byte, and the used length grows by exactly that
-    pub completed_leaves : (w ≡ g.used + length (frame_of g (ended g))) × (b ≡ written_at g.buffer g.used (frame_of g (ended g)))
-    completed_leaves = reporting.completed_leaves ran a q
+    pub completed_leaves : (c.used ≡ g.used + length (frame_of g (ended g))) × (b ≡ written_at g.buffer g.used (frame_of g (ended g)))
+    completed_leaves = reporting.completed_leaves ran q
 
     -- which had room in a buffer of an allowed size
     pub completed_fits : (g.used + length (frame_of g (ended g)) ≤ length g.buffer) × (length g.buffer ≤ buffer_most)
-    completed_fits = reporting.completed_fits ran a q
+    completed_fits = reporting.completed_fits ran q

@@ -1,2 +1,3 @@
 -- Between the functions of this crate.
 pub mod Ends
+pub mod Going

@@ -1,23 +1,27 @@
 // Runs: the loop that follows document 01's machine, and the public entries.
 #![tactic(auto)]
 
-ghost use Rattle.std.specs.Prelude.{true, false, [], ◌≡◌, ◌+◌, ◌-◌, ◌≤◌, ◌<◌, length};
+ghost use Rattle.std.specs.Prelude.{false, ◌≡◌, ℕ, ◌+◌, ◌-◌, ◌≤◌, ◌<◌, length, IfOk};
 ghost use Rattle.encoding.specs.Written.{written_at};
 ghost use Rattle.isa.specs.Joining.Held.{held};
-ghost use Rattle.isa.specs.Joining.Rows.{table};
+ghost use Rattle.refusals.specs.Numbers.{number_or_0};
 ghost use Rattle.refusals.specs.Tried.{tried};
-ghost use Rattle.memory.specs.Spans.{target, spans_refusal};
+ghost use Rattle.memory.specs.Spans.{target_of};
 ghost use Rattle.verdict.specs.Verdict.{SetsNothing};
 ghost use Rattle.frames.specs.Trailer.{trailer_size, tag_of, encode_trailer};
-ghost use Rattle.machine.specs.Given.{given};
+ghost use Rattle.machine.specs.Given.{given_by};
 ghost use Rattle.machine.specs.Machine.{answer};
 ghost use Rattle.machine.specs.Run.{input_tests, default_allowance};
 ghost use Rattle.runner.specs.Returned.{answer_of, Ran};
-ghost use Rattle.runner.specs.Joining.Ends.{IsAccepted, RanInPlace, RanAccepted};
+ghost use Rattle.runner.specs.Joining.Ends.{given_to, IsAccepted, RanInPlace, RanAccepted};
+ghost use Rattle.runner.specs.Joining.Going.{Gone};
 
-use isa::Stack;
-use refusals::Refusal;
-use verdict::Verification;
+use isa::{Cells, Rows, Stack};
+use machine::{Fixed, Inputs};
+use memory::Memory;
+use operations::Place;
+use refusals::{Reason, Refusal};
+use stepping::Stepped;
 
 // What is on top of the stack at an end: no value, the top, or the top and the cell beneath.
 #[derive(Clone, Copy)]
@@ -27,17 +31,19 @@ pub enum Value {
     TopAndBeneath(u64, u64),
 }
 
-// Completed: answer, steps, used length.
+// What a completed run returns; one that is refused returns its refusal.
 #[derive(Clone, Copy)]
-pub enum Outcome {
-    Completed(Value, u64, usize),
-    Refused(Refusal),
+pub struct Completed {
+    pub value: Value,
+    pub steps: u64,
+    // The used length of the buffer.
+    pub used: usize,
 }
 
 // Used by the entry that is given no allowance.
 pub const DEFAULT_ALLOWANCE: u64 = 1024;
 
-fn value_of(cells: &[u64; Stack::DEPTH], height: usize) -> Value
+fn value_of(cells: &Cells, height: usize) -> Value
     requires { height ≤ 64 }
     ensures { answer_of result ≡ answer (held cells.now height) }
 {
@@ -48,8 +54,50 @@ fn value_of(cells: &[u64; Stack::DEPTH], height: usize) -> Value
     if height == 1 {
         return Value::Top(top);
     }
-    let beneath = cells[height - 2];
-    Value::TopAndBeneath(top, beneath)
+    Value::TopAndBeneath(top, cells[height - 2])
+}
+
+// What a loop of steps came to.
+#[derive(Clone, Copy)]
+pub enum Went {
+    // All the steps are done: the place of the next.
+    On(Place),
+    // An end: its place, and the steps with it.
+    Ended(Place, u64),
+    Refused(Refusal),
+}
+
+// At most `allowance` steps of an accepted expression, on inputs that 12 to 15 allow. What is left of the allowance is
+// counted down, so that one machine instruction both counts and tests: with a range each step costs one more.
+#[inline(always)]
+pub fn go(
+    fixed: Fixed,
+    cells: &mut Cells,
+    variables: &mut [u64; sizes::VARIABLE_COUNT],
+    buffer: &mut [u8],
+    used: usize,
+    allowance: u64,
+) -> Went
+    requires { IsAccepted fixed.code.now × (used ≤ length buffer.old) × (length cells.old ≡ 64) }
+    ensures { (tracepoint : ℕ) → Gone (given_to fixed.entry variables.old buffer.old tracepoint used allowance) result cells.new variables.new buffer.new }
+{
+    let mut place = Place {
+        at: 0,
+        height: 0,
+        put: used,
+    };
+    let mut left = allowance;
+    while 0 < left {
+        match stepping::step(fixed, cells, variables, buffer, place) {
+            Ok(Stepped::On(next)) => place = next,
+            Ok(Stepped::End) => return Went::Ended(place, allowance - left + 1),
+            Err(reason) => {
+                return Went::Refused(Refusal::after(reason, place.at, allowance - left));
+            }
+        }
+        left -= 1;
+    }
+    Went::On(place)
 }
 
 // Closes the frame whose records end at `put`. The caller has seen that there is room.
@@ -62,120 +110,64 @@ fn close_frame(buffer: &mut [u8], put: usize, tracepoint: u16, size: usize)
     frames::trailer::append_trailer(buffer, put, tag, size as u32);
 }
 
-// What a run has of its own: its stack, and a copy of the variables where it may set some. One value, so that both are
-// cleared at once.
-#[derive(Drop)]
-pub struct Own {
-    pub stack: Stack,
-    pub kept: [u64; sizes::VARIABLE_COUNT],
-}
-
-// Copies the variables where that is wanted.
-fn copy_if(to: &mut [u64; sizes::VARIABLE_COUNT], from: &[u64; sizes::VARIABLE_COUNT], wanted: bool)
-    ensures { (wanted ≡ true → to.new ≡ from.now) × (wanted ≡ false → to.new ≡ to.old) }
-{
-    if wanted {
-        *to = *from;
-    }
-}
-
-// A run of an accepted expression on inputs that 12 to 15 allow, on the variables themselves. What is left of the
-// allowance is counted down, so that one machine instruction both counts and tests. Where a step stops, its answer has
-// the offset and the end of what is written as they were: so they are taken before `stop` is tested. The value is taken
-// last, so that the caller need not ask again which kind it is.
-fn follow<'a>(
-    rows: &[[u8; 4]; 53],
-    code: &[u8],
-    registers: &[u64],
-    image_first: u64,
-    image: &'a [u8],
-    work_first: u64,
-    work: &'a [u8],
-    cells: &mut [u64; Stack::DEPTH],
+// A run of an accepted expression on inputs that 12 to 15 allow, on the variables themselves.
+fn follow(
+    fixed: Fixed,
+    cells: &mut Cells,
     variables: &mut [u64; sizes::VARIABLE_COUNT],
     buffer: &mut [u8],
     used: usize,
     tracepoint: u16,
     allowance: u64,
-) -> Outcome
-    requires { (rows.now ≡ table) × IsAccepted code.now × (spans_refusal (target image_first image.now work_first work.now) ≡ 0) × (used ≤ length buffer.old) × (length buffer.old ≤ 65536) × (length cells.old ≡ 64) }
-    ensures { RanInPlace (given code.now registers.now variables.old (target image_first image.now work_first work.now) tracepoint buffer.old used allowance) result variables.new buffer.new }
+) -> Result<Completed, Refusal>
+    requires { IsAccepted fixed.code.now × (used ≤ length buffer.old) × (length buffer.old ≤ 65536) × (length cells.old ≡ 64) }
+    ensures { RanInPlace (given_to fixed.entry variables.old buffer.old tracepoint used allowance) result variables.new buffer.new }
 {
-    let mut height = 0;
-    let mut at = 0;
-    let mut put = used;
-    let mut left = allowance;
-    while 0 < left {
-        let next = stepping::step(
-            rows,
-            code,
-            registers,
-            image_first,
-            image,
-            work_first,
-            work,
-            cells,
-            variables,
-            buffer,
-            at,
-            height,
-            put,
-        );
-        at = next.at;
-        height = next.height;
-        put = next.put;
-        if next.stop != 0 {
-            let steps = allowance - left;
-            let counted = steps + 1;
-            if next.stop == 1 {
-                close_frame(buffer, put, tracepoint, put - used);
-                let length = put + frames::trailer::TRAILER_SIZE;
-                let value = value_of(cells, height);
-                return Outcome::Completed(value, counted, length);
-            }
-            let refusal = refusals::refusal_after(next.stop, at, steps);
-            return Outcome::Refused(refusal);
+    match go(fixed, cells, variables, buffer, used, allowance) {
+        Went::On(place) => Err(Refusal::after(Reason::AllowanceSpent, place.at, allowance)),
+        Went::Refused(refusal) => Err(refusal),
+        Went::Ended(place, steps) => {
+            close_frame(buffer, place.put, tracepoint, place.put - used);
+            Ok(Completed {
+                value: value_of(cells, place.height),
+                steps,
+                used: place.put + frames::trailer::TRAILER_SIZE,
+            })
         }
-        left -= 1;
     }
-    let steps = allowance - left;
-    let refusal = refusals::refusal_after(refusals::ALLOWANCE_SPENT, at, steps);
-    Outcome::Refused(refusal)
+}
+
+// What a run has of its own: its stack, and a copy of the variables where it may set some. One value, so that both are
+// cleared at once.
+#[derive(Drop)]
+struct Own {
+    stack: Stack,
+    kept: [u64; sizes::VARIABLE_COUNT],
 }
 
 // The same, which leaves the variables as given where it is refused. Where no variable is set, they are as given: so
 // they are neither copied nor put back.
-fn run_accepted<'a>(
-    rows: &[[u8; 4]; 53],
-    code: &[u8],
-    registers: &[u64],
-    image_first: u64,
-    image: &'a [u8],
-    work_first: u64,
-    work: &'a [u8],
+fn run_accepted(
+    fixed: Fixed,
     variables: &mut [u64; sizes::VARIABLE_COUNT],
     buffer: &mut [u8],
     used: usize,
     tracepoint: u16,
     allowance: u64,
     sets: bool,
-) -> Outcome
-    requires { (rows.now ≡ table) × IsAccepted code.now × (spans_refusal (target image_first image.now work_first work.now) ≡ 0) × (used ≤ length buffer.old) × (length buffer.old ≤ 65536) × (sets ≡ false → SetsNothing code.now) }
-    ensures { RanAccepted (given code.now registers.now variables.old (target image_first image.now work_first work.now) tracepoint buffer.old used allowance) result variables.new buffer.new }
+) -> Result<Completed, Refusal>
+    requires { IsAccepted fixed.code.now × (used ≤ length buffer.old) × (length buffer.old ≤ 65536) × (sets ≡ false → SetsNothing fixed.code.now) }
+    ensures { RanAccepted (given_to fixed.entry variables.old buffer.old tracepoint used allowance) result variables.new buffer.new }
 {
     let mut own = Own {
         stack: Stack::empty(),
         kept: [0u64; sizes::VARIABLE_COUNT],
     };
-    copy_if(&mut own.kept, variables, sets);
-    let outcome = follow(
-        rows,
-        code,
-        registers,
-        image_first,
-        image,
-        work_first,
-        work,
+    if sets {
+        own.kept = *variables;
+    }
+    let returned = follow(
+        fixed,
         &mut own.stack.cells,
         variables,
         buffer,
@@ -183,130 +175,69 @@ fn run_accepted<'a>(
         tracepoint,
         allowance,
     );
-    match outcome {
-        Outcome::Completed(_, _, _) => outcome,
-        Outcome::Refused(_) => {
-            copy_if(variables, &own.kept, sets);
-            outcome
-        }
+    if sets && returned.is_err() {
+        *variables = own.kept;
     }
+    returned
 }
 
-// 12 to 15, tried in that order; 0 where none is met.
-pub fn inputs_refusal(
-    registers: &[u64],
-    image_first: u64,
-    image: &[u8],
-    work_first: u64,
-    work: &[u8],
-    buffer: &[u8],
-    used: usize,
-) -> u8
-    ensures { result ≡ tried (input_tests registers.now (target image_first image.now work_first work.now) buffer.now used) }
+// 12 to 15, tried in that order, or the memory that the run may read.
+pub fn inputs_refusal<'a>(inputs: Inputs<'a>, buffer: &[u8]) -> Result<Memory<'a>, Reason>
+    ensures number { number_or_0 result ≡ tried (input_tests inputs.entry.registers.now (target_of inputs.entry.target) buffer.now inputs.entry.used) }
+    ensures same { IfOk result (λ memory. memory.target ≡ inputs.entry.target) }
 {
-    let number = memory::spans_refusal(image_first, image, work_first, work);
-    if number != 0 {
-        return number;
+    let allowed = memory::spans_refusal(inputs.target)?;
+    if sizes::REGISTERS_MOST < inputs.registers.len() {
+        return Err(Reason::RegistersMany);
     }
-    if sizes::REGISTERS_MOST < registers.len() {
-        return refusals::REGISTERS_MANY;
+    if frames::is_unfit(buffer, inputs.used) {
+        return Err(Reason::BufferBad);
     }
-    if frames::is_unfit(buffer, used) {
-        return refusals::BUFFER_BAD;
-    }
-    0
+    Ok(allowed)
 }
 
 // Verifies the expression, checks the inputs, and runs it: at most `allowance` instructions. The loop has a table of
 // its own, which no opcode that varies is looked up in: so the compiler knows each row that an arm reads.
-pub fn run<'a>(
-    code: &[u8],
-    registers: &[u64],
-    image_first: u64,
-    image: &'a [u8],
-    work_first: u64,
-    work: &'a [u8],
+pub fn run(
+    inputs: Inputs,
     variables: &mut [u64; sizes::VARIABLE_COUNT],
     buffer: &mut [u8],
-    used: usize,
-    tracepoint: u16,
     allowance: u64,
-) -> Outcome
-    ensures { Ran (given code.now registers.now variables.old (target image_first image.now work_first work.now) tracepoint buffer.old used allowance) result variables.new buffer.new }
+) -> Result<Completed, Refusal>
+    ensures { Ran (given_by inputs.entry variables.old buffer.old allowance) result variables.new buffer.new }
 {
-    machine::typed(
-        code,
-        registers,
-        image_first,
-        image,
-        work_first,
-        work,
+    machine::typed(inputs, variables);
+    let noted = verifier::verify_noting(inputs.code);
+    noted.answer?;
+    let memory = match inputs_refusal(inputs, buffer) {
+        Ok(memory) => memory,
+        Err(reason) => return Err(Refusal::at(reason, 0)),
+    };
+    let rows = Rows::new();
+    let fixed = Fixed {
+        rows: &rows,
+        code: inputs.code,
+        registers: inputs.registers,
+        memory,
+    };
+    run_accepted(
+        fixed,
         variables,
-        tracepoint,
-    );
-    let noted = verifier::verify_noting(code);
-    let answer = noted.answer;
-    match answer {
-        Verification::Refused(refusal) => Outcome::Refused(refusal),
-        Verification::Accepted(count, greatest, longest) => {
-            let number = inputs_refusal(
-                registers,
-                image_first,
-                image,
-                work_first,
-                work,
-                buffer,
-                used,
-            );
-            if number != 0 {
-                let refusal = refusals::refusal_at(number, 0);
-                return Outcome::Refused(refusal);
-            }
-            run_accepted(
-                &isa::ROWS,
-                code,
-                registers,
-                image_first,
-                image,
-                work_first,
-                work,
-                variables,
-                buffer,
-                used,
-                tracepoint,
-                allowance,
-                noted.sets,
-            )
-        }
-    }
+        buffer,
+        inputs.used,
+        inputs.tracepoint,
+        allowance,
+        noted.sets,
+    )
 }
 
 // The same without an allowance given.
-pub fn run_default<'a>(
-    code: &[u8],
-    registers: &[u64],
-    image_first: u64,
-    image: &'a [u8],
-    work_first: u64,
-    work: &'a [u8],
+pub fn run_default(
+    inputs: Inputs,
     variables: &mut [u64; sizes::VARIABLE_COUNT],
     buffer: &mut [u8],
-    used: usize,
-    tracepoint: u16,
-) -> Outcome
-    ensures { Ran (given code.now registers.now variables.old (target image_first image.now work_first work.now) tracepoint buffer.old used default_allowance) result variables.new buffer.new }
+) -> Result<Completed, Refusal>
+    ensures { Ran (given_by inputs.entry variables.old buffer.old default_allowance) result variables.new buffer.new }
 {
-    run(
-        code,
-        registers,
-        image_first,
-        image,
-        work_first,
-        work,
-        variables,
-        buffer,
-        used,
-        tracepoint,
-        DEFAULT_ALLOWANCE,
-    )
+    run(inputs, variables, buffer, DEFAULT_ALLOWANCE)
 }

@@ -1,5 +1,5 @@
 -- What a run is given by what is set (the manual, "Running a scenario").
-use Rattle.std.specs.Prelude.{ℕ, ◌%◌, cond, List, take}
+use Rattle.std.specs.Prelude.{ℕ, ◌%◌, List, take, Option, None, Some}
 use Rattle.memory.specs.Spans.{target}
 use Rattle.machine.specs.Given.{Given, given}
 use Rattle.machine.specs.Run.{default_allowance}
@@ -10,8 +10,12 @@ abbrev pub tracepoint_of : Setting → ℕ
 tracepoint_of s = s.tracepoint % 65536
 
 -- "any 64-bit number, or the entry without one (1,024)"
+abbrev pub allowance_or_default : Option ℕ → ℕ
+allowance_or_default None = default_allowance
+allowance_or_default (Some steps) = steps
+
 unfoldable pub allowance_of : Setting → ℕ
-allowance_of s = cond s.allowance.is_default default_allowance s.allowance.steps
+allowance_of s = allowance_or_default s.allowance
 
 -- the expression e; of the registers, and of the bytes of image and memory, as many as are set
 abbrev pub given_by : Setting → List ℕ → List ℕ → List ℕ → List ℕ → List ℕ → List ℕ → Given

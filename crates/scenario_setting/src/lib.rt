@@ -2,10 +2,10 @@
 #![tactic(auto)]
 
 ghost use Rattle.std.specs.Prelude.{◌≡◌, set, take};
-ghost use Rattle.scenario_setting.specs.Settings.{begun, with_stop, with_default, with_used, with_span, lent_with, with_number};
+ghost use Rattle.scenario_setting.specs.Settings.{begun, with_default, with_used, with_span, lent_with, with_number};
 ghost use Rattle.scenario_setting.specs.Settings.{registers_after, variable_set, variables_set};
 
-use scenario::{ALLOWANCE, BUFFER, IMAGE, REGISTER, REGISTERS, TRACEPOINT, VARIABLE};
+use scenario::Keyword;
 
 // The first address of a span, and its length.
 #[derive(Clone, Copy)]
@@ -21,14 +21,7 @@ pub struct Buffer {
     pub used: usize,
 }
 
-// The steps are of no account where the allowance is the default.
-#[derive(Clone, Copy)]
-pub struct Allowance {
-    pub steps: u64,
-    pub is_default: bool,
-}
-
-// As many registers are lent as `registers` says; `is_stopped` says that a wrong line has ended the scenario.
+// As many registers are lent as `registers` says. Without an allowance of its own a run has the default one.
 #[derive(Clone, Copy)]
 pub struct Setting {
     pub registers: usize,
@@ -36,8 +29,7 @@ pub struct Setting {
     pub memory: SpanSetting,
     pub tracepoint: u64,
     pub buffer: Buffer,
-    pub allowance: Allowance,
-    pub is_stopped: bool,
+    pub allowance: Option<u64>,
 }
 
 pub fn start() -> Setting
@@ -52,52 +44,48 @@ pub fn start() -> Setting
             size: sizes::BUFFER_MOST,
             used: 0,
         },
-        allowance: Allowance {
-            steps: 0,
-            is_default: true,
-        },
-        is_stopped: false,
+        allowance: None,
     }
-}
-
-pub fn stopped(before: Setting) -> Setting
-    ensures { result ≡ with_stop before }
-{
-    let mut s = before;
-    s.is_stopped = true;
-    s
 }
 
 pub fn with_default_allowance(before: Setting) -> Setting
     ensures { result ≡ with_default before }
 {
-    let mut s = before;
-    s.allowance.is_default = true;
-    s
+    Setting {
+        allowance: None,
+        ..before
+    }
 }
 
 pub fn with_used(before: Setting, used: usize) -> Setting
     ensures { result ≡ with_used before used }
 {
-    let mut s = before;
-    s.buffer.used = used;
-    s
+    let size = before.buffer.size;
+    Setting {
+        buffer: Buffer { size, used },
+        ..before
+    }
 }
 
-pub fn with_span(before: Setting, keyword: u8, first: u64, len: usize) -> Setting
+#[tactic(auto, unfolding(crate::specs::Settings::with_span))]
+pub fn with_span(before: Setting, keyword: Keyword, first: u64, len: usize) -> Setting
     ensures { result ≡ with_span before keyword first len }
 {
-    let mut s = before;
     let span = SpanSetting { first, len };
-    if keyword == IMAGE {
-        s.image = span;
-        return s;
+    match keyword {
+        Keyword::Image => Setting {
+            image: span,
+            ..before
+        },
+        _ => Setting {
+            memory: span,
+            ..before
+        },
     }
-    s.memory = span;
-    s
 }
 
 // As many registers are lent as the highest number set, and one more.
+#[tactic(auto, unfolding(crate::specs::Settings::lent_with))]
 fn lent_with(number: u64, lent: usize) -> usize
     ensures { result ≡ lent_with number lent }
 {
@@ -105,37 +93,27 @@ fn lent_with(number: u64, lent: usize) -> usize
     if sizes::REGISTERS_MOST <= n {
         return lent;
     }
-    if n < lent {
-        return lent;
-    }
-    n + 1
+    lent.max(n + 1)
 }
 
 // The words that set one number, and `register`, whose value `store` sets.
-pub fn with_number(before: Setting, keyword: u8, number: u64, value: u64) -> Setting
+#[tactic(auto, unfolding(crate::specs::Settings::with_number))]
+pub fn with_number(before: Setting, keyword: Keyword, number: u64, value: u64) -> Setting
     ensures { result ≡ with_number before keyword number value }
 {
     let mut s = before;
-    if keyword == REGISTER {
-        s.registers = lent_with(number, before.registers);
-        return s;
-    }
-    if keyword == REGISTERS {
-        s.registers = value as usize;
-        return s;
-    }
-    if keyword == TRACEPOINT {
-        s.tracepoint = value;
-        return s;
-    }
-    if keyword == BUFFER {
-        s.buffer.size = value as usize;
-        s.buffer.used = 0;
-        return s;
-    }
-    if keyword == ALLOWANCE {
-        s.allowance.steps = value;
-        s.allowance.is_default = false;
+    match keyword {
+        Keyword::Register => s.registers = lent_with(number, before.registers),
+        Keyword::Registers => s.registers = value as usize,
+        Keyword::Tracepoint => s.tracepoint = value,
+        Keyword::Buffer => {
+            s.buffer = Buffer {
+                size: value as usize,
+                used: 0,
+            }
+        }
+        Keyword::Allowance => s.allowance = Some(value),
+        _ => {}
     }
     s
 }
@@ -149,6 +127,7 @@ fn set_register(registers: &mut [u64], number: usize, value: u64)
     }
 }
 
+#[tactic(auto, unfolding(crate::specs::Settings::variable_set))]
 fn set_variable(variables: &mut [u64; sizes::VARIABLE_COUNT], number: usize, value: u64)
     ensures { variables.new ≡ variable_set number value variables.old }
 {
@@ -158,8 +137,9 @@ fn set_variable(variables: &mut [u64; sizes::VARIABLE_COUNT], number: usize, val
 }
 
 // The value of a register or variable.
+#[tactic(auto, unfolding(crate::specs::Settings::registers_after, crate::specs::Settings::variables_set))]
 pub fn store(
-    keyword: u8,
+    keyword: Keyword,
     number: u64,
     value: u64,
     registers: &mut [u64],
@@ -168,30 +148,16 @@ pub fn store(
     ensures registers { registers.new ≡ registers_after keyword number value registers.old }
     ensures variables { variables.new ≡ variables_set keyword number value variables.old }
 {
-    if keyword == REGISTER {
-        set_register(registers, number as usize, value);
-        return;
-    }
-    if keyword == VARIABLE {
-        set_variable(variables, number as usize, value);
+    match keyword {
+        Keyword::Register => set_register(registers, number as usize, value),
+        Keyword::Variable => set_variable(variables, number as usize, value),
+        _ => {}
     }
 }
 
 // ---- what is lent to a run: the first so many, which are never fewer
-pub fn first_registers<'a>(registers: &'a [u64], count: usize) -> &'a [u64]
-    ensures { result.now ≡ take count registers.now }
+pub fn first_of<'a, T>(items: &'a [T], count: usize) -> &'a [T]
+    ensures { result.now ≡ take count items.now }
 {
-    if registers.len() < count {
-        return registers;
-    }
-    &registers[0..count]
-}
-
-pub fn first_bytes<'a>(bytes: &'a [u8], count: usize) -> &'a [u8]
-    ensures { result.now ≡ take count bytes.now }
-{
-    if bytes.len() < count {
-        return bytes;
-    }
-    &bytes[0..count]
+    &items[..items.len().min(count)]
 }

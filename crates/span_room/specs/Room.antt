@@ -1,5 +1,5 @@
 -- Two spans in one buffer: the one at its start, the other at its end.
-use Rattle.std.specs.Prelude.{ℕ, ◌+◌, ◌-◌, ◌≤◌, cond, List, ◌++◌, ◌≡◌, leb, length, take, drop}
+use Rattle.std.specs.Prelude.{ℕ, ◌+◌, ◌-◌, cond, List, ◌++◌, leb, length, take, drop}
 
 -- the last n bytes; all where there are fewer
 unfoldable pub last_of : ℕ → List ℕ → List ℕ
@@ -8,11 +8,3 @@ last_of n l = drop (length l - n) l
 -- n bytes from `from` stand at the end, and all before them are as they were; bytes that do not lie in l are not moved
 unfoldable pub moved_to_end : List ℕ → ℕ → ℕ → List ℕ
 moved_to_end l from n = cond (leb (from + n) (length l)) (take (length l - n) l ++ take n (drop from l)) l
-
--- ---- for the loop: n bytes go from `from` up to `to`, at the end of l
-pub record Rises (l : List ℕ) (from to n : ℕ) : Type 0 where
-  pub up : from ≤ to
-  pub end : to + n ≡ length l
-
-unfoldable pub raised : List ℕ → ℕ → ℕ → ℕ → List ℕ
-raised l from to n = take to l ++ take n (drop from l)

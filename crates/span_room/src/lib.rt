@@ -3,30 +3,13 @@
 #![tactic(auto)]
 
 ghost use Rattle.std.specs.Prelude.{◌≡◌};
-ghost use Rattle.span_room.specs.Room.{last_of, Rises, raised, moved_to_end};
+ghost use Rattle.span_room.specs.Room.{last_of, moved_to_end};
 
 // The last bytes, so many; all where there are fewer.
 pub fn last_bytes<'a>(bytes: &'a [u8], count: usize) -> &'a [u8]
     ensures { result.now ≡ last_of count bytes.now }
 {
-    if bytes.len() < count {
-        return bytes;
-    }
-    let start = bytes.len() - count;
-    &bytes[start..]
-}
-
-// Moves bytes to the buffer's end, from the last on: where old and new place overlap, a byte is read before it is
-// written over.
-fn move_up(bytes: &mut [u8], from: usize, to: usize, count: usize)
-    requires { Rises bytes.old from to count }
-    ensures { bytes.new ≡ raised bytes.old from to count }
-{
-    let mut left = count;
-    while 0 < left {
-        left -= 1;
-        bytes[to + left] = bytes[from + left];
-    }
+    &bytes[bytes.len().saturating_sub(count)..]
 }
 
 // Moves `count` bytes that begin at `from` to the buffer's end. Bytes that do not lie in the buffer are not moved.
@@ -37,8 +20,7 @@ pub fn move_to_end(bytes: &mut [u8], from: usize, count: usize)
         return;
     }
     let to = bytes.len() - count;
-    if to < from {
-        return;
+    if from <= to {
+        bytes.copy_within(from..from + count, to);
     }
-    move_up(bytes, from, to, count);
 }

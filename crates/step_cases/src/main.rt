@@ -3,16 +3,36 @@
 
 use command_steps::print_steps;
 use console_output::{Console, print};
+use machine::Inputs;
+use memory::{Span, Target};
 
 // On the working memory 41 00 42 at 4096, a buffer of 64 bytes and one register.
 fn list(console: &Console, name: &[u8], code: &[u8], allowance: u64) {
     print(console, name);
     let registers = [7u64; 1];
     let work = [0x41u8, 0x00, 0x42];
-    let variables = [0u64; sizes::VARIABLE_COUNT];
-    let buffer = [0u8; 64];
+    let inputs = Inputs {
+        code,
+        registers: &registers,
+        target: Target {
+            image: Span {
+                first: 0,
+                bytes: b"",
+            },
+            work: Span {
+                first: 4096,
+                bytes: &work,
+            },
+        },
+        used: 0,
+        tracepoint: 0,
+    };
     print_steps(
-        console, code, &registers, 0, b"", 4096, &work, &variables, &buffer, 0, allowance,
+        console,
+        inputs,
+        &[0; sizes::VARIABLE_COUNT],
+        &[0; 64],
+        allowance,
     );
 }
 

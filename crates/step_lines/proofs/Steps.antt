@@ -1,5 +1,5 @@
 -- The line of a step, by what is tested of it. Assumes nothing.
-use Prim.Native.Nat.{ℕ, zero, suc, ◌+◌, ◌-◌, ◌^◌, ◌≤◌, ◌<◌}
+use Prim.Native.Nat.{ℕ, suc, ◌+◌, ◌-◌, ◌^◌, ◌≤◌, ◌<◌}
 use native.Mathlib.Omega.{arith}
 use mathlib.Core.Bool.{true, false}
 use mathlib.Core.List.{List, [], ◌++◌}
@@ -62,7 +62,7 @@ module _ (n : ℕ) (e : List ℕ) (k : ℕ) (s : List ℕ) where
       (λ g. lt-leb r 101 (cases r (length b) (λ h. omega (arith, g, t.all h)) (λ h. omega (arith, h, room))) ∙ sym (lt-leb (length l) 101 g))
       (λ h. le-leb r 101 (omega (arith, t.most, h)) ∙ sym (le-leb (length l) 101 h))
 
-  -- with i cells shown it is narrow, or not
+  -- with i + 1 cells shown it is narrow, or not
   pub fits_by : (i : ℕ) → is_narrow n e k s (length s - suc i) ≡ true → length s - suc i ≡ hidden_of n e k s (suc i)
   unfolding hidden_of
   fits_by i q = rw q
@@ -71,15 +71,17 @@ module _ (n : ℕ) (e : List ℕ) (k : ℕ) (s : List ℕ) where
   unfolding hidden_of
   wide_by i q = rw q
 
-  pub fits : (i : ℕ) → 0 < i → is_narrow n e k s (length s - i) ≡ true → length s - i ≡ hidden_of n e k s i
-  fits zero h q = absurd (omega arith)
-  fits (suc i) h q = fits_by i q
+  -- the same with j cells hidden
+  module _ (j : ℕ) (h : j < length s) where
+    shown : (length s - j ≡ suc (length s - (j + 1))) × (length s - suc (length s - (j + 1)) ≡ j)
+    shown = (omega arith, omega arith)
 
-  pub wide : (i : ℕ) → 0 < i → is_narrow n e k s (length s - i) ≡ false → hidden_of n e k s i ≡ hidden_of n e k s (i - 1)
-  wide zero h q = absurd (omega arith)
-  wide (suc i) h q = let z : i ≡ suc i - 1 = omega arith in wide_by i q ∙ ap (hidden_of n e k s) z
+    pub fits : is_narrow n e k s j ≡ true → j ≡ hidden_of n e k s (length s - j)
+    fits q = rw shown.0 (sym shown.1 ∙ fits_by (length s - (j + 1)) (ap (is_narrow n e k s) shown.1 ∙ q))
 
-  pub none_fits : (i : ℕ) → i ≤ 0 → length s ≡ hidden_of n e k s i
+    pub wide : is_narrow n e k s j ≡ false → hidden_of n e k s (length s - j) ≡ hidden_of n e k s (length s - (j + 1))
+    wide q = rw shown.0 (wide_by (length s - (j + 1)) (ap (is_narrow n e k s) shown.1 ∙ q))
+
+  pub none_fits : (j : ℕ) → length s ≤ j → length s ≡ hidden_of n e k s (length s - j)
   unfolding hidden_of
-  none_fits zero h = refl
-  none_fits (suc i) h = absurd (omega arith)
+  none_fits j h = let z : length s - j ≡ 0 = omega arith in rw z refl

@@ -1,5 +1,4 @@
-// A step of a run as a line of text. Each function appends to a text in a lent buffer, as those of `text_buffer` do:
-// `at` is where the text so far ends, and the answer is where it ends then.
+// A step of a run as a line of text.
 #![tactic(auto)]
 
 ghost use Rattle.std.specs.Prelude.{◌≡◌, ◌≤◌, length};
@@ -10,98 +9,103 @@ ghost use Rattle.step_lines.specs.Step.{place_text, step_line, is_narrow, hidden
 
 use instruction_text::writing::append_plain;
 use phrases::numbers::append_signed;
-use text_buffer::{append, append_number};
+use text_buffer::TextBuffer;
 
 // The signed reading, where it differs: `(-1)`.
-fn append_reading(out: &mut [u8], at: usize, cell: u64) -> usize
-    ensures count { IsPrefixLen result out.new }
-    ensures text { Appends out.old at (reading_text cell) out.new result }
+fn append_reading(text: &mut TextBuffer, cell: u64)
+    ensures count { IsPrefixLen text.new.end text.new.bytes.now }
+    ensures text { Appends text.old.bytes.now text.old.end (reading_text cell) text.new.bytes.now text.new.end }
+    ensures lent { text.new.bytes.ghost_name ≡ text.old.bytes.ghost_name }
 {
     if cell < 9223372036854775808 {
-        return append(out, at, b"");
+        text.append(b"");
+        return;
     }
-    let a = append(out, at, b"(");
-    let b = append_signed(out, a, cell);
-    append(out, b, b")")
+    text.append(b"(");
+    append_signed(text, cell);
+    text.append(b")");
 }
 
-fn append_cell(out: &mut [u8], at: usize, cell: u64) -> usize
-    ensures count { IsPrefixLen result out.new }
-    ensures text { Appends out.old at (cell_text cell) out.new result }
+fn append_cell(text: &mut TextBuffer, cell: u64)
+    ensures count { IsPrefixLen text.new.end text.new.bytes.now }
+    ensures text { Appends text.old.bytes.now text.old.end (cell_text cell) text.new.bytes.now text.new.end }
+    ensures lent { text.new.bytes.ghost_name ≡ text.old.bytes.ghost_name }
 {
-    let a = append(out, at, b" ");
-    let b = append_number(out, a, cell);
-    append_reading(out, b, cell)
+    text.append(b" ");
+    text.append_number(cell);
+    append_reading(text, cell);
 }
 
-fn append_cells(out: &mut [u8], at: usize, cells: &[u64]) -> usize
-    requires { IsPrefixLen at out.old }
-    ensures count { IsPrefixLen result out.new }
-    ensures text { Appends out.old at (cells_text cells.now) out.new result }
+fn append_cells(text: &mut TextBuffer, cells: &[u64])
+    ensures count { IsPrefixLen text.new.end text.new.bytes.now }
+    ensures text { Appends text.old.bytes.now text.old.end (cells_text cells.now) text.new.bytes.now text.new.end }
+    ensures lent { text.new.bytes.ghost_name ≡ text.old.bytes.ghost_name }
 {
-    let mut n = at;
-    let mut i = 0;
-    while i < cells.len() {
-        n = append_cell(out, n, cells[i]);
-        i += 1;
+    text.append(b"");
+    for cell in cells {
+        append_cell(text, *cell);
     }
-    n
 }
 
-fn append_more(out: &mut [u8], at: usize, hidden: usize) -> usize
-    ensures count { IsPrefixLen result out.new }
-    ensures text { Appends out.old at (more_text hidden) out.new result }
+fn append_more(text: &mut TextBuffer, hidden: usize)
+    ensures count { IsPrefixLen text.new.end text.new.bytes.now }
+    ensures text { Appends text.old.bytes.now text.old.end (more_text hidden) text.new.bytes.now text.new.end }
+    ensures lent { text.new.bytes.ghost_name ≡ text.old.bytes.ghost_name }
 {
     if hidden == 0 {
-        return append(out, at, b"");
+        text.append(b"");
+        return;
     }
-    let a = append(out, at, b" (");
-    let b = append_number(out, a, hidden as u64);
-    append(out, b, b" more)")
+    text.append(b" (");
+    text.append_number(hidden as u64);
+    text.append(b" more)");
 }
 
 // The cells but for the lowest, of which it is told how many they are.
-fn append_stack(out: &mut [u8], at: usize, cells: &[u64], hidden: usize) -> usize
+fn append_stack(text: &mut TextBuffer, cells: &[u64], hidden: usize)
     requires { hidden ≤ length cells.now }
-    ensures count { IsPrefixLen result out.new }
-    ensures text { Appends out.old at (stack_text cells.now hidden) out.new result }
+    ensures count { IsPrefixLen text.new.end text.new.bytes.now }
+    ensures text { Appends text.old.bytes.now text.old.end (stack_text cells.now hidden) text.new.bytes.now text.new.end }
+    ensures lent { text.new.bytes.ghost_name ≡ text.old.bytes.ghost_name }
 {
-    if cells.len() == 0 {
-        return append(out, at, b" empty");
+    if cells.is_empty() {
+        text.append(b" empty");
+        return;
     }
-    let a = append_more(out, at, hidden);
-    append_cells(out, a, &cells[hidden..])
+    append_more(text, hidden);
+    append_cells(text, &cells[hidden..]);
 }
 
-fn append_place(out: &mut [u8], at: usize, step: u64, offset: usize) -> usize
-    ensures count { IsPrefixLen result out.new }
-    ensures text { Appends out.old at (place_text step offset) out.new result }
+fn append_place(text: &mut TextBuffer, step: u64, offset: usize)
+    ensures count { IsPrefixLen text.new.end text.new.bytes.now }
+    ensures text { Appends text.old.bytes.now text.old.end (place_text step offset) text.new.bytes.now text.new.end }
+    ensures lent { text.new.bytes.ghost_name ≡ text.old.bytes.ghost_name }
 {
-    let a = append(out, at, b"  step ");
-    let b = append_number(out, a, step);
-    let c = append(out, b, b": offset ");
-    let d = append_number(out, c, offset as u64);
-    append(out, d, b", ")
+    text.append(b"  step ");
+    text.append_number(step);
+    text.append(b": offset ");
+    text.append_number(offset as u64);
+    text.append(b", ");
 }
 
 fn append_line(
-    out: &mut [u8],
-    at: usize,
+    text: &mut TextBuffer,
     step: u64,
     code: &[u8],
     offset: usize,
     cells: &[u64],
     hidden: usize,
-) -> usize
+)
     requires { hidden ≤ length cells.now }
-    ensures count { IsPrefixLen result out.new }
-    ensures text { Appends out.old at (step_line step code.now offset cells.now hidden) out.new result }
+    ensures count { IsPrefixLen text.new.end text.new.bytes.now }
+    ensures text { Appends text.old.bytes.now text.old.end (step_line step code.now offset cells.now hidden) text.new.bytes.now text.new.end }
+    ensures lent { text.new.bytes.ghost_name ≡ text.old.bytes.ghost_name }
 {
-    let a = append_place(out, at, step, offset);
-    let b = append_plain(out, a, code, offset);
-    let c = append(out, b, b", stack");
-    let d = append_stack(out, c, cells, hidden);
-    append(out, d, b"\n")
+    append_place(text, step, offset);
+    append_plain(text, code, offset);
+    text.append(b", stack");
+    append_stack(text, cells, hidden);
+    text.append(b"\n");
 }
 
 // Whether the line has at most 100 columns, found by writing it.
@@ -109,39 +113,31 @@ fn is_narrow(step: u64, code: &[u8], offset: usize, cells: &[u64], hidden: usize
     requires { hidden ≤ length cells.now }
     ensures { result ≡ is_narrow step code.now offset cells.now hidden }
 {
-    let mut line = [0u8; 128];
-    let n = append_line(&mut line, 0, step, code, offset, cells, hidden);
-    n <= 101
+    let mut room = [0u8; 128];
+    let mut line = TextBuffer::new(&mut room);
+    append_line(&mut line, step, code, offset, cells, hidden);
+    line.end <= 101
 }
 
 // How many of the lowest cells are not shown, so that the line has at most 100 columns.
 fn hidden_cells(step: u64, code: &[u8], offset: usize, cells: &[u64]) -> usize
     ensures { (result ≡ hidden_of step code.now offset cells.now (length cells.now)) × (result ≤ length cells.now) }
 {
-    let mut shown = cells.len();
-    while 0 < shown {
-        let hidden = cells.len() - shown;
+    for hidden in 0..cells.len() {
         if is_narrow(step, code, offset, cells, hidden) {
             return hidden;
         }
-        shown -= 1;
     }
     cells.len()
 }
 
 // Appends where a run stands: after so many steps, before the instruction at the offset, with these cells on its
 // stack, the top last. As many of them are shown as a line of 100 columns has room for.
-pub fn append_step(
-    out: &mut [u8],
-    at: usize,
-    step: u64,
-    code: &[u8],
-    offset: usize,
-    cells: &[u64],
-) -> usize
-    ensures count { IsPrefixLen result out.new }
-    ensures text { Appends out.old at (step_text step code.now offset cells.now) out.new result }
+pub fn append_step(text: &mut TextBuffer, step: u64, code: &[u8], offset: usize, cells: &[u64])
+    ensures count { IsPrefixLen text.new.end text.new.bytes.now }
+    ensures text { Appends text.old.bytes.now text.old.end (step_text step code.now offset cells.now) text.new.bytes.now text.new.end }
+    ensures lent { text.new.bytes.ghost_name ≡ text.old.bytes.ghost_name }
 {
     let hidden = hidden_cells(step, code, offset, cells);
-    append_line(out, at, step, code, offset, cells, hidden)
+    append_line(text, step, code, offset, cells, hidden);
 }

@@ -12,7 +12,10 @@ use types.Run.{OneOf}
 use borrow.Author.Tests.{ne_eqb}
 use Rattle.logic.specs.Tests.{member}
 use Rattle.logic.proofs.Promises.{and_left, and_right}
+use Rattle.std.specs.Prelude.{Result, Ok, Err}
 use Rattle.refusals.specs.Numbers.{buffer_full}
+use Rattle.refusals.specs.declared.Reason.{Reason}
+use Rattle.refusals.proofs.Promises.{number_some}
 use Rattle.sizes.specs.Sizes.{stack_cells}
 use Rattle.encoding.proofs.Promises.{written_nothing}
 use Rattle.isa.specs.Classes.{Class, unsupported, unknown, opcodes, class_of, kind, kind_unsupported, kind_end}
@@ -23,36 +26,38 @@ use Rattle.frames.specs.Record.{Record, encode_all}
 use Rattle.frames.specs.Trailer.{trailer_size}
 use Rattle.machine.specs.Given.{Fixed}
 use Rattle.machine.specs.Meaning.{Done, leaves, faults, meaning, end_done, done, stack_after, is_setv, variables_after, offset_after}
-use Rattle.operations.specs.declared.Next.{Next}
+use Rattle.operations.specs.declared.Place.{Place}
 use Rattle.operations.specs.Joining.Did.{Did}
-use Rattle.stepping.specs.Joining.Effect.{Effect, goes, completes, refuses, effect_of, effect, effect_number, effect_offset, effect_stack, effect_variables, effect_records, DidStep, DidEnd}
+use Rattle.stepping.specs.Joining.Effect.{Effect, goes, completes, refuses, effect_of, effect, at_end, refused, came, came_by, place_after, effect_offset, effect_stack, effect_variables, effect_records, DidStep, DidEnd, on_of}
+use Rattle.stepping.specs.declared.Stepped.{Stepped}
+use Rattle.stepping.specs.declared.Stepped.TheVariants.{On, End}
 
-module _ (m : Fixed) (k : ℕ) (s v : List ℕ) (free op : ℕ) (c : Class) (q : class_of op ≡ c) (f : get_or m.expression k 0 ≡ op) where
-  class_at_lem : class_at m.expression k ≡ c
+module _ (m : Fixed) (p : Place) (s v : List ℕ) (free op : ℕ) (c : Class) (q : class_of op ≡ c) (f : get_or m.expression p.at 0 ≡ op) where
+  class_at_lem : class_at m.expression p.at ≡ c
   class_at_lem = ap class_of f ∙ q
 
-  done_at : done m k s v free ≡ meaning m s v free op (operand m.expression k) c
+  done_at : done m p.at s v free ≡ meaning m s v free op (operand m.expression p.at) c
   unfolding done
   done_at = rw (f, q) refl
 
   -- an instruction that is no end and leaves cells goes on
   on_goes : eqb (kind c) kind_end ≡ false → (cells : List ℕ) (rs : List Record)
-      → effect_of m.expression k s v (leaves cells rs) ≡ goes (offset_after m.expression k s) (stack_after m.expression k s cells) (variables_after m.expression k s v) rs
+      → effect_of m.expression p.at s v (leaves cells rs) ≡ goes (offset_after m.expression p.at s) (stack_after m.expression p.at s cells) (variables_after m.expression p.at s v) rs
   on_goes z cells rs = rw (class_at_lem, z) refl
 
-  same_variables : is_setv c ≡ false → variables_after m.expression k s v ≡ v
+  same_variables : is_setv c ≡ false → variables_after m.expression p.at s v ≡ v
   unfolding variables_after
   same_variables z = rw (class_at_lem, z) refl
 
-  set_variables : is_setv c ≡ true → variables_after m.expression k s v ≡ set v (operand m.expression k) (get_or s 0 0)
+  set_variables : is_setv c ≡ true → variables_after m.expression p.at s v ≡ set v (operand m.expression p.at) (get_or s 0 0)
   unfolding variables_after
   set_variables z = rw (class_at_lem, z) refl
 
-  module _ (z : eqb (kind c) kind_end ≡ false) {b : List ℕ} {p : ℕ} {r : Next} {a b' : List ℕ} where
-    step_by : (d : Done) {v' : List ℕ} → variables_after m.expression k s v ≡ v' → ((x : ℕ) → d ≡ faults x → v' ≡ v) → Did m.expression k p s b d r a b'
-        → DidStep k s v b p (effect_of m.expression k s v d) r a v' b'
-    step_by (leaves cells rs) y u d = rw (on_goes z cells rs, y) (record {
-      stop = d.stop;
+  module _ (z : eqb (kind c) kind_end ≡ false) {b : List ℕ} {a b' : List ℕ} where
+    step_by : (d : Done) (r : Result Place Reason) {v' : List ℕ} → variables_after m.expression p.at s v ≡ v' → ((x : ℕ) → d ≡ faults x → v' ≡ v)
+        → Did m.expression p s b d r a b' → DidStep p s v b (effect_of m.expression p.at s v d) (on_of r) a v' b'
+    step_by (leaves cells rs) (Ok n) y u d = rw (on_goes z cells rs, y) (record {
+      says = refl;
       at = d.at;
       stack = d.stack;
       put = d.put;
@@ -61,8 +66,10 @@ module _ (m : Fixed) (k : ℕ) (s v : List ℕ) (free op : ℕ) (c : Class) (q :
       room = d.room;
       long = d.long;
     })
-    step_by (faults x) y u d = record {
-      stop = d.stop;
+    step_by (leaves cells rs) (Err x) y u d = absurd (omega (arith, d.stop, number_some x))
+    step_by (faults x) (Ok n) y u d = absurd (omega (arith, d.stop, d.some))
+    step_by (faults x) (Err n) y u d = record {
+      says = ap refused d.stop;
       at = d.at;
       stack = d.stack;
       put = d.put;
@@ -72,42 +79,47 @@ module _ (m : Fixed) (k : ℕ) (s v : List ℕ) (free op : ℕ) (c : Class) (q :
       long = d.long;
     }
 
-    pub did_step : {d : Done} → is_setv c ≡ false → meaning m s v free op (operand m.expression k) c ≡ d → Did m.expression k p s b d r a b'
-        → DidStep k s v b p (effect m k s v free) r a v b'
-    unfolding effect
-    did_step {d} y g u = rw (done_at ∙ g) (step_by d (same_variables y) (λ x i. refl) u)
+    module _ {w : Result Stepped Reason} {r : Result Place Reason} (e : w ≡ on_of r) where
+      pub did_step : {d : Done} → is_setv c ≡ false → meaning m s v free op (operand m.expression p.at) c ≡ d → Did m.expression p s b d r a b'
+          → DidStep p s v b (effect m p.at s v free) w a v b'
+      unfolding effect
+      did_step {d} y g u = rw (done_at ∙ g, e) (step_by d r (same_variables y) (λ x i. refl) u)
 
-    pub did_set : {cells v' : List ℕ} → is_setv c ≡ true → meaning m s v free op (operand m.expression k) c ≡ leaves cells []
-        → v' ≡ set v (operand m.expression k) (get_or s 0 0) → Did m.expression k p s b (leaves cells []) r a b' → DidStep k s v b p (effect m k s v free) r a v' b'
-    unfolding effect
-    did_set {cells} y g i u =
-        rw (done_at ∙ g) (step_by (leaves cells []) (set_variables y ∙ sym i) (λ x j. absurd (let n : ◌≡◌ {A = ℕ} 0 1 = cc in omega arith)) u)
+      pub did_set : {cells v' : List ℕ} → is_setv c ≡ true → meaning m s v free op (operand m.expression p.at) c ≡ leaves cells []
+          → v' ≡ set v (operand m.expression p.at) (get_or s 0 0) → Did m.expression p s b (leaves cells []) r a b' → DidStep p s v b (effect m p.at s v free) w a v' b'
+      unfolding effect
+      did_set {cells} y g i u =
+          rw (done_at ∙ g, e) (step_by (leaves cells []) r (set_variables y ∙ sym i) (λ x j. absurd (let n : ◌≡◌ {A = ℕ} 0 1 = cc in omega arith)) u)
 
   -- nothing moves
-  still : (x : Effect) → effect_offset k x ≡ k → effect_stack s x ≡ s → effect_variables v x ≡ v → effect_records x ≡ [] → {b : List ℕ} {p : ℕ} {r : Next} {a : List ℕ}
-      → r.stop ≡ effect_number x → r.at ≡ k → r.put ≡ p → held a r.height ≡ s → p ≤ length b → length a ≡ stack_cells → DidStep k s v b p x r a v b
+  still : (x : Effect) (r : Result Stepped Reason) → came_by r ≡ came x → place_after p r ≡ p → effect_offset p.at x ≡ p.at → effect_stack s x ≡ s → effect_variables v x ≡ v
+      → effect_records x ≡ [] → {b a : List ℕ} → held a p.height ≡ s → p.put ≤ length b → length a ≡ stack_cells → DidStep p s v b x r a v b
   unfolding encode_all
-  still x o t y n {b} {p} e i u h l g = record {
-    stop = e;
-    at = i ∙ sym o;
-    stack = h ∙ sym t;
-    put = rw (n, add-zero) u;
+  still x r e i o t y n {b} {a} h l g = record {
+    says = e;
+    at = rw i (sym o);
+    stack = rw i (h ∙ sym t);
+    put = rw (n, add-zero, i) refl;
     variables = sym y;
-    buffer = rw n (sym (written_nothing b p));
-    room = omega arith;
+    buffer = rw n (sym (written_nothing b p.put));
+    room = rw i l;
     long = g;
   }
 
   -- an end completes where the trailer fits
-  ended_by : (x : Bool) → eqb (kind c) kind_end ≡ true → {b : List ℕ} {p : ℕ} {r : Next} {a : List ℕ} → r.stop ≡ cond x 1 buffer_full → r.at ≡ k → r.put ≡ p
-      → held a r.height ≡ s → p ≤ length b → length a ≡ stack_cells → DidStep k s v b p (effect_of m.expression k s v (cond x (leaves [] []) (faults buffer_full))) r a v b
-  ended_by true z e i u h l g = rw (class_at_lem, z) (still completes refl refl refl refl e i u h l g)
-  ended_by false z e i u h l g = still (refuses buffer_full) refl refl refl refl e i u h l g
+  ended_by : (x : Bool) (r : Result Stepped Reason) → eqb (kind c) kind_end ≡ true → {b a : List ℕ} → came_by r ≡ cond x at_end (refused buffer_full)
+      → held a p.height ≡ s → p.put ≤ length b → length a ≡ stack_cells → DidStep p s v b (effect_of m.expression p.at s v (cond x (leaves [] []) (faults buffer_full))) r a v b
+  ended_by true (Ok End) z e h l g = rw (class_at_lem, z) (still completes (Ok End) refl refl refl refl refl refl h l g)
+  ended_by false (Err y) z e h l g = still (refuses buffer_full) (Err y) e refl refl refl refl refl h l g
+  ended_by true (Ok (On n)) z e h l g = absurd cc
+  ended_by true (Err y) z e h l g = absurd cc
+  ended_by false (Ok (On n)) z e h l g = absurd cc
+  ended_by false (Ok End) z e h l g = absurd cc
 
-  pub did_end : eqb (kind c) kind_end ≡ true → meaning m s v free op (operand m.expression k) c ≡ end_done free → {b : List ℕ} {p h : ℕ} {r : Next} {a : List ℕ}
-      → DidEnd k h p free r → held a h ≡ s → p ≤ length b → length a ≡ stack_cells → DidStep k s v b p (effect m k s v free) r a v b
+  pub did_end : eqb (kind c) kind_end ≡ true → meaning m s v free op (operand m.expression p.at) c ≡ end_done free → {r : Result Stepped Reason} {b a : List ℕ}
+      → DidEnd free r → held a p.height ≡ s → p.put ≤ length b → length a ≡ stack_cells → DidStep p s v b (effect m p.at s v free) r a v b
   unfolding effect end_done
-  did_end z g {a = a} e h l w = rw (done_at ∙ g) (ended_by (leb trailer_size free) z e.stop e.at e.put (ap (held a) e.height ∙ h) l w)
+  did_end z g {r} e h l w = rw (done_at ∙ g) (ended_by (leb trailer_size free) r z e h l w)
 
 -- ---- the key of an arm is its opcode and 0xc0
 pub opcode_is : (k : ℕ) {op key : ℕ} → key ≡ op + 0xc0 → key ≡ k + 0xc0 → op ≡ k

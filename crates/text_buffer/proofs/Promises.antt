@@ -72,6 +72,10 @@ module _ {b b' : List ℕ} {n n' : ℕ} {s : List ℕ} (p : Appends b n s b' n')
   pub appends_past : drop n' b' ≡ drop n' b
   appends_past = appending.appends_past p
 
+  -- the buffer is as long as it was
+  pub appends_length : length b' ≡ length b
+  appends_length = appending.appends_length p
+
   -- the text ends in the buffer
   pub appends_inside : n' ≤ length b'
   appends_inside = appending.appends_inside p

@@ -1,14 +1,58 @@
-// Text appended to a buffer that the caller lends, cut where the buffer ends. `at` is where the text
-// so far ends, and each function answers where it ends then.
+// A text that grows in a buffer that the caller lends, cut where the buffer ends.
 #![tactic(auto)]
 
-ghost use Rattle.std.specs.Prelude.{ℕ};
+ghost use Rattle.std.specs.Prelude.{ℕ, ◌≡◌, take};
 ghost use Rattle.io.specs.Counts.{IsPrefixLen};
 ghost use Rattle.io.specs.Digits.{last_digits, IsDigitCount};
 ghost use Rattle.text_buffer.specs.Text.{Appends};
 
 pub mod rows;
 
+// The buffer, and where the text so far ends. A text that is said to end behind the buffer ends with it once something
+// is appended.
+#[derive(Drop)]
+pub struct TextBuffer<'a> {
+    pub bytes: &'a mut [u8],
+    pub end: usize,
+}
+
+impl<'a> TextBuffer<'a> {
+    // No text yet.
+    pub fn new(bytes: &'a mut [u8]) -> TextBuffer<'a>
+        ensures { (result.bytes ≡ bytes.entry) × (result.end ≡ 0) }
+    {
+        TextBuffer { bytes, end: 0 }
+    }
+
+    // The text so far.
+    pub fn written(&self) -> &[u8]
+        ensures { result.now ≡ take self.now.end self.now.bytes.now }
+    {
+        &self.bytes[..self.end.min(self.bytes.len())]
+    }
+
+    // Appends bytes.
+    pub fn append(&mut self, bytes: &[u8])
+        ensures count { IsPrefixLen self.new.end self.new.bytes.now }
+        ensures text { Appends self.old.bytes.now self.old.end bytes.now self.new.bytes.now self.new.end }
+        ensures lent { self.new.bytes.ghost_name ≡ self.old.bytes.ghost_name }
+    {
+        self.end = append(self.bytes, self.end, bytes);
+    }
+
+    // Appends a number in decimal, with no zeros in front.
+    pub fn append_number(&mut self, number: u64)
+        ensures count { IsPrefixLen self.new.end self.new.bytes.now }
+        ensures text { (k : ℕ) × IsDigitCount 10 1 number k × Appends self.old.bytes.now self.old.end (last_digits 10 k number) self.new.bytes.now self.new.end }
+        ensures lent { self.new.bytes.ghost_name ≡ self.old.bytes.ghost_name }
+    {
+        let mut figures = [0u8; 20];
+        let count = io::decimal(number, &mut figures);
+        self.append(&figures[..count]);
+    }
+}
+
+// Appends bytes to the text that ends at `at`, and answers where it ends then.
 pub fn append(out: &mut [u8], at: usize, bytes: &[u8]) -> usize
     ensures count { IsPrefixLen result out.new }
     ensures text { Appends out.old at bytes.now out.new result }
@@ -16,20 +60,11 @@ pub fn append(out: &mut [u8], at: usize, bytes: &[u8]) -> usize
     if out.len() < at {
         return out.len();
     }
-    let mut n = at;
-    let mut i = 0;
-    while i < bytes.len() {
-        if out.len() <= n {
-            break;
-        }
-        out[n] = bytes[i];
-        n += 1;
-        i += 1;
-    }
-    n
+    let count = bytes.len().min(out.len() - at);
+    out[at..at + count].copy_from_slice(&bytes[..count]);
+    at + count
 }
 
-// Appends a number in decimal, with no zeros in front.
 pub fn append_number(out: &mut [u8], at: usize, number: u64) -> usize
     ensures count { IsPrefixLen result out.new }
     ensures text { (k : ℕ) × IsDigitCount 10 1 number k × Appends out.old at (last_digits 10 k number) out.new result }

@@ -4,27 +4,25 @@ ghost use Rattle.io.specs.Counts.{IsPrefixLen};
 ghost use Rattle.text_buffer.specs.Rows.{trimmed};
 ghost use Rattle.text_buffer.specs.Text.{Appends};
 
-use crate::append;
+use crate::TextBuffer;
 
 // How long a row is without the spaces at its end.
 pub fn row_length(row: &[u8]) -> usize
     ensures { (result ≡ trimmed row.now) × (result ≤ length row.now) }
 {
-    let mut n = row.len();
-    while 0 < n {
-        if row[n - 1] != b' ' {
-            return n;
+    for n in (0..row.len()).rev() {
+        if row[n] != b' ' {
+            return n + 1;
         }
-        n -= 1;
     }
-    n
+    0
 }
 
 // Appends a row's text.
-pub fn append_row(out: &mut [u8], at: usize, row: &[u8]) -> usize
-    ensures count { IsPrefixLen result out.new }
-    ensures text { Appends out.old at (take (trimmed row.now) row.now) out.new result }
+pub fn append_row(text: &mut TextBuffer, row: &[u8])
+    ensures count { IsPrefixLen text.new.end text.new.bytes.now }
+    ensures text { Appends text.old.bytes.now text.old.end (take (trimmed row.now) row.now) text.new.bytes.now text.new.end }
+    ensures lent { text.new.bytes.ghost_name ≡ text.old.bytes.ghost_name }
 {
-    let n = row_length(row);
-    append(out, at, &row[0..n])
+    text.append(&row[..row_length(row)]);
 }

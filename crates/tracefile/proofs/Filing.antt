@@ -62,12 +62,11 @@ few v k h w =
     (λ l. l)
 
 pub named : (b : List ℕ) (n v k : ℕ) → length b ≡ 24 → v < 2 ^ 64 → IsDigitCount 10 1 v k → Text b n (bytes_of "v" ++ last_digits 10 k v) → Text b n (bytes_of "v" ++ decimal v)
-    → take (n - 0) b ≡ name_text v
+    → take n b ≡ name_text v
 unfolding name_text
 named b n v k long h w t u =
     let d = length-append (bytes_of "v") (last_digits 10 k v) in
     let s = digits_length 10 k v in
     let m = few v k h w in
     let inside : n < length b = omega (arith, t.most, d, s, m, long) in
-    let z : n - 0 ≡ n = omega arith in
-    ap (λ (j : ℕ). take j b) z ∙ u.same ∙ take_all n (bytes_of "v" ++ decimal v) (omega (arith, u.all inside))
+    u.same ∙ take_all n (bytes_of "v" ++ decimal v) (omega (arith, u.all inside))

@@ -2,7 +2,7 @@
 use Rattle.std.proofs.Common.{◌≡◌, ℕ, ◌+◌, List, ◌++◌, length, sym, refl, ap, ◌∙◌}
 use Rattle.encoding.specs.LittleEndian.{little_bytes}
 use Rattle.encoding.specs.Ranges.{AllBytes}
-use Rattle.refusals.specs.declared.Refusal.{Refusal}
+use Rattle.refusals.specs.Refusal.{Refusal}
 use Rattle.frames.specs.Record.{Record, memory, variable, size, encode, encode_all}
 use Rattle.frames.specs.declared.Tag.{Tag}
 use Rattle.reader.specs.Located.{frame_back, located, walked}

@@ -5,9 +5,7 @@ use Rattle.encoding.specs.LittleEndian.{little_bytes}
 use Rattle.frames.specs.Record.{Record, memory, variable, encode, encode_all}
 use Rattle.reader.specs.Located.{Located, frame, refused}
 use Rattle.reader.specs.Framed.{FrameRead, frame_read, refused_frame, framed}
-use Rattle.reader.specs.NextRecord.{next_record}
-use Rattle.reader.specs.declared.RecordStep.{RecordStep}
-use Rattle.reader.specs.declared.RecordStep.TheVariants.{Memory, Variable, Refused}
+use Rattle.reader.specs.NextRecord.{RecordStep, Memory, Variable, Refused, next_record}
 
 -- a record as it stands in the file: variable numbers are one higher there
 abbrev pub exported : Record → Record

@@ -1,4 +1,5 @@
 // The lines of text at the start of the file.
+ghost use Rattle.std.specs.Prelude.{◌≡◌};
 ghost use Rattle.io.specs.Counts.{IsPrefixLen};
 ghost use Rattle.hexadecimal.specs.Hex.{hex_of};
 ghost use Rattle.text_buffer.specs.Text.{Appends};
@@ -6,51 +7,51 @@ ghost use Rattle.tracefile.specs.Head.{start_text, name_text, variable_text, tar
 
 use hexadecimal::encode;
 use phrases::numbers::append_address;
-use text_buffer::{append, append_number};
+use text_buffer::TextBuffer;
 
-pub fn append_start(out: &mut [u8], at: usize, frames: u64) -> usize
-    ensures count { IsPrefixLen result out.new }
-    ensures text { Appends out.old at (start_text frames) out.new result }
+pub fn append_start(text: &mut TextBuffer, frames: u64)
+    ensures count { IsPrefixLen text.new.end text.new.bytes.now }
+    ensures text { Appends text.old.bytes.now text.old.end (start_text frames) text.new.bytes.now text.new.end }
+    ensures lent { text.new.bytes.ghost_name ≡ text.old.bytes.ghost_name }
 {
-    let a = append(out, at, b"\x7f");
-    let b = append(out, a, b"TRACE0\nR 1\nstatus 0;tunknown:0;tframes:");
-    let c = append_address(out, b, frames);
-    let d = append(out, c, b":tcreated:");
-    let e = append_address(out, d, frames);
-    append(out, e, b"\n")
+    text.append(b"\x7f");
+    text.append(b"TRACE0\nR 1\nstatus 0;tunknown:0;tframes:");
+    append_address(text, frames);
+    text.append(b":tcreated:");
+    append_address(text, frames);
+    text.append(b"\n");
 }
 
 // The name v0, v1 .. of a variable, in hexadecimal as GDB wants it.
-fn append_name(out: &mut [u8], at: usize, number: u64) -> usize
-    ensures { Appends out.old at (hex_of (name_text number)) out.new result }
+fn append_name(text: &mut TextBuffer, number: u64)
+    ensures text { Appends text.old.bytes.now text.old.end (hex_of (name_text number)) text.new.bytes.now text.new.end }
+    ensures lent { text.new.bytes.ghost_name ≡ text.old.bytes.ghost_name }
 {
-    let mut name = [0u8; 24];
-    let a = append(&mut name, 0, b"v");
-    let n = append_number(&mut name, a, number);
-    encode(out, at, &name[0..n])
+    let mut room = [0u8; 24];
+    let mut name = TextBuffer::new(&mut room);
+    name.append(b"v");
+    name.append_number(number);
+    encode(text, name.written());
 }
 
-pub fn append_variable(out: &mut [u8], at: usize, number: u64) -> usize
-    ensures count { IsPrefixLen result out.new }
-    ensures text { Appends out.old at (variable_text number) out.new result }
+pub fn append_variable(text: &mut TextBuffer, number: u64)
+    ensures count { IsPrefixLen text.new.end text.new.bytes.now }
+    ensures text { Appends text.old.bytes.now text.old.end (variable_text number) text.new.bytes.now text.new.end }
+    ensures lent { text.new.bytes.ghost_name ≡ text.old.bytes.ghost_name }
 {
-    let a = append(out, at, b"tsv ");
-    let next = std::num::wrapping_add_u64(number, 1);
-    let b = append_address(out, a, next);
-    let c = append(out, b, b":0:0:");
-    let d = append_name(out, c, number);
-    append(out, d, b"\n")
+    text.append(b"tsv ");
+    append_address(text, number.wrapping_add(1));
+    text.append(b":0:0:");
+    append_name(text, number);
+    text.append(b"\n");
 }
 
 // The architecture, and the empty line that ends the text.
-pub fn append_target(out: &mut [u8], at: usize) -> usize
-    ensures count { IsPrefixLen result out.new }
-    ensures text { Appends out.old at target_text out.new result }
+pub fn append_target(text: &mut TextBuffer)
+    ensures count { IsPrefixLen text.new.end text.new.bytes.now }
+    ensures text { Appends text.old.bytes.now text.old.end target_text text.new.bytes.now text.new.end }
+    ensures lent { text.new.bytes.ghost_name ≡ text.old.bytes.ghost_name }
 {
-    let a = append(out, at, b"tdesc <?xml version='1.0'?>");
-    append(
-        out,
-        a,
-        b"<target><architecture>i386:x86-64</architecture></target>\n\n",
-    )
+    text.append(b"tdesc <?xml version='1.0'?>");
+    text.append(b"<target><architecture>i386:x86-64</architecture></target>\n\n");
 }

@@ -11,8 +11,7 @@ use lib.ListN.{get_or, length, set, replicate, length-set, length-replicate, get
 use lib.Seq.{get_or-set_same, get_or-set_other, set_out}
 use lib.Dec.{eqb, leb}
 use borrow.Author.Tests.{eq-eqb, ne_eqb, eqb-false, ltb-false, le-leb, leb-true, leb-false, not-true}
-use Rattle.refusals.specs.declared.Refusal.{Refusal}
-use Rattle.refusals.specs.Refusal.{refusal}
+use Rattle.refusals.specs.Refusal.{Refusal, refusal}
 use Rattle.isa.specs.Classes.{kind_goto, kind_if_goto, kind_end}
 use Rattle.isa.specs.Decode.{kind_at, next, operand, needed, height_after, jumps, continues}
 use Rattle.isa.specs.Starts.{starts_from, is_start}

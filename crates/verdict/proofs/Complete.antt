@@ -11,7 +11,7 @@ use lib.ListN.{get_or, length, set, length-set}
 use lib.Seq.{get_or-set_same, get_or-set_other}
 use lib.Dec.{leb}
 use borrow.Author.Tests.{eq-eqb, ne_eqb, lt-ltb, le-ltb, leb-true}
-use Rattle.refusals.specs.declared.Refusal.{Refusal}
+use Rattle.refusals.specs.Refusal.{Refusal}
 use Rattle.isa.specs.Classes.{kind_end}
 use Rattle.isa.specs.Decode.{kind_at, next, operand, needed, height_after, jumps, continues}
 use Rattle.isa.specs.Starts.{is_start}

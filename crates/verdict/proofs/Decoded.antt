@@ -12,8 +12,7 @@ use lib.Dec.{eqb, leb}
 use borrow.Author.Tests.{eq-eqb, ne_eqb, eqb-false, ltb-false, le-leb, leb-false, not-false}
 use Rattle.sizes.specs.Sizes.{variable_count}
 use Rattle.logic.specs.Tests.{member}
-use Rattle.refusals.specs.declared.Refusal.{Refusal}
-use Rattle.refusals.specs.Refusal.{refusal}
+use Rattle.refusals.specs.Refusal.{Refusal, refusal}
 use Rattle.isa.specs.Classes.{kind_unsupported, kind_ext, kind_variable, kind_goto, kind_if_goto}
 use Rattle.isa.specs.Decode.{kind_at, next, operand}
 use Rattle.isa.specs.Starts.{starts_from, starts, is_start}

@@ -13,7 +13,7 @@ use Rattle.logic.proofs.Promises.{cases}
 use Rattle.isa.specs.Classes.{kind_unknown, kind_unsupported, kind_ext, kind_variable, kind_goto, kind_end}
 use Rattle.isa.specs.Decode.{kind_at, next, operand, needed, height_after, jumps}
 use Rattle.isa.specs.Starts.{is_start}
-use Rattle.isa.proofs.Promises.{no_operands, known_low, start_below}
+use Rattle.isa.proofs.Promises.{no_operands, start_below}
 use Rattle.verdict.specs.Pass1.{operand_wrong, fault1}
 use Rattle.verdict.specs.Pass2.{fault2}
 use Rattle.verdict.specs.Pass3.{differing, runs_off_end, fault3}
@@ -23,10 +23,6 @@ module _ (e : List ℕ) (i : ℕ) where
   pub f_unknown : kind_at e i ≡ kind_unknown → 2 ≡ fault1 e i
   unfolding fault1
   f_unknown h = rw (eq-eqb (kind_at e i) kind_unknown h)
-
-  -- past the table
-  pub f_high : 53 ≤ get_or e i 0 → 2 ≡ fault1 e i
-  f_high h = f_unknown (cases kind_unknown (kind_at e i) (λ p. absurd (omega (arith, known_low (get_or e i 0) p))) (λ p. omega arith))
 
   pub f_unsupported : kind_at e i ≡ kind_unsupported → 3 ≡ fault1 e i
   unfolding fault1

@@ -8,9 +8,8 @@ use mathlib.Core.Path.{◌≡◌}
 use Prim.Native.Nat.{ℕ, ◌≤◌, ◌<◌}
 use native.Mathlib.Omega.{arith}
 use lib.ListN.{length}
-use Rattle.refusals.specs.declared.Refusal.{Refusal}
 use Rattle.refusals.specs.Numbers.{heights_differ, runs_off}
-use Rattle.refusals.specs.Refusal.{refusal}
+use Rattle.refusals.specs.Refusal.{Refusal, refusal}
 use Rattle.isa.specs.Classes.{kind_unsupported}
 use Rattle.isa.specs.Decode.{kind_at, next, height_after}
 use Rattle.isa.specs.Starts.{is_start}

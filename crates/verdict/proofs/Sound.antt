@@ -8,8 +8,7 @@ use native.Mathlib.Omega.{arith}
 use native.Mathlib.Decide.{ℕ_discrete}
 use lib.ListN.{get_or, length}
 use borrow.Author.Tests.{eq-eqb}
-use Rattle.refusals.specs.declared.Refusal.{Refusal}
-use Rattle.refusals.specs.Refusal.{refusal}
+use Rattle.refusals.specs.Refusal.{Refusal, refusal}
 use Rattle.isa.specs.Classes.{kind_end}
 use Rattle.isa.specs.Decode.{kind_at, next, height_after}
 use Rattle.isa.specs.Starts.{is_start}

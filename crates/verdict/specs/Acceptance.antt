@@ -3,9 +3,8 @@
 -- `verdict_accepted` and `verdict_refused`.
 use Rattle.std.specs.Prelude.{true, ◌≢◌, ◌⊎◌, List, [], ◌∷◌, ◌≡◌, ℕ, ◌+◌, ◌-◌, ◌≤◌, ◌<◌, length}
 use Rattle.sizes.specs.Sizes.{expression_most, stack_cells, variable_count}
-use Rattle.refusals.specs.declared.Refusal.{Refusal}
 use Rattle.refusals.specs.Numbers.{expression_size, heights_differ, cells_too_few, cells_too_many, runs_off}
-use Rattle.refusals.specs.Refusal.{refusal}
+use Rattle.refusals.specs.Refusal.{Refusal, refusal}
 use Rattle.isa.specs.Classes.{kind_unsupported, kind_ext, kind_variable, kind_end}
 use Rattle.isa.specs.Decode.{kind_at, operand_bytes, operand, needed, left, height_after}
 use Rattle.isa.specs.Starts.{starts, is_start}

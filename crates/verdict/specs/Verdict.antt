@@ -1,10 +1,9 @@
 -- The verifier's answer for any bytes: document 01, "Verifying". "Three passes, each in rising offset; the first fault
 -- found is the answer."
-use Rattle.std.specs.Prelude.{true, cond, ◌&&◌, List, ◌≢◌, ◌≡◌, ℕ, length, leb}
+use Rattle.std.specs.Prelude.{true, cond, ◌&&◌, List, ◌≢◌, ◌≡◌, ℕ, Result, Ok, Err, length, leb}
 use Rattle.sizes.specs.Sizes.{expression_most}
-use Rattle.refusals.specs.declared.Refusal.{Refusal}
 use Rattle.refusals.specs.Numbers.{expression_size}
-use Rattle.refusals.specs.Refusal.{refusal}
+use Rattle.refusals.specs.Refusal.{Refusal, refusal, told}
 use Rattle.isa.specs.Classes.{setv}
 use Rattle.isa.specs.Decode.{class_at}
 use Rattle.isa.specs.Starts.{starts, is_start}
@@ -13,8 +12,8 @@ use Rattle.verdict.specs.Fault.{Fault, none, fault}
 use Rattle.verdict.specs.Pass1.{pass1}
 use Rattle.verdict.specs.Pass2.{pass2}
 use Rattle.verdict.specs.Pass3.{Pass3End, done, stopped, pass3}
-use Rattle.verdict.specs.declared.Verification.{Verification}
-use Rattle.verdict.specs.declared.Verification.TheVariants.{Accepted, Refused}
+use Rattle.refusals.specs.declared.Refusal as code_refusal
+use Rattle.verdict.specs.declared.Accepted as code
 
 -- "The answer gives pass 1's instruction count, the greatest height, and the length of the longest walk to an end."
 pub data Verdict : Type 0 where
@@ -38,9 +37,9 @@ unfoldable pub verdict : List ℕ → Verdict
 verdict e = cond (leb 1 (length e) && leb (length e) expression_most) (after1 e (pass1 e)) (refused (refusal expression_size 0))
 
 -- document 01's number and values for each case of the code's answer
-abbrev pub verdict_of : Verification → Verdict
-verdict_of (Accepted n g l) = accepted n g l
-verdict_of (Refused x) = refused x
+abbrev pub verdict_of : Result code.Accepted code_refusal.Refusal → Verdict
+verdict_of (Ok a) = accepted a.count a.greatest a.longest
+verdict_of (Err x) = refused (told x)
 
 -- no instruction of the expression is a setv: no run of it changes a variable
 abbrev pub SetsNothing : List ℕ → Type 0

@@ -2,13 +2,16 @@
 use Prim.Native.Nat.{ℕ, ◌≤◌, ◌<◌}
 use mathlib.Core.Bool.{true, false}
 use mathlib.Core.List.{List, [], ◌++◌}
-use mathlib.Core.Path.{◌≡◌}
+use mathlib.Core.Path.{◌≡◌, refl}
+use native.Mathlib.Omega.{arith}
 use lib.ListN.{length, get_or}
 use borrow.Author.Tests.{eq-eqb, ne_eqb, le-leb, lt-leb}
 use Rattle.hexadecimal.specs.Hex.{pair_of}
 use Rattle.text_buffer.specs.Text.{bytes_of}
-use Rattle.refusals.specs.declared.Refusal.{Refusal}
-use Rattle.refusals.specs.Numbers.{expression_size}
+use Rattle.refusals.specs.Refusal.{Refusal}
+use Rattle.refusals.specs.Numbers.{expression_size, number_of}
+use Rattle.refusals.specs.declared.Reason.{Reason}
+use Rattle.refusals.specs.declared.Reason.TheVariants.{ExpressionSize}
 use Rattle.isa.specs.Classes.{class_of, kind, kind_unknown}
 use Rattle.instruction_text.specs.Names.{name_of}
 use Rattle.text_buffer.specs.Decimal.{decimal}
@@ -39,6 +42,10 @@ module _ (e : List ℕ) (k : ℕ) where
   pub there_instruction : k < length e → is_instruction e k ≡ true → bytes_of " (" ++ plain_at e k ++ bytes_of ")" ≡ there_text e k
   unfolding there_text
   there_instruction h q = rw (lt-leb (length e) k h, q)
+
+pub size_reason : (r : Reason) → number_of r ≡ expression_size → r ≡ ExpressionSize
+size_reason ExpressionSize p = refl
+size_reason r p = absurd (omega arith)
 
 module _ (e : List ℕ) (r : Refusal) where
   pub of_none : r.number ≡ expression_size → [] ≡ instruction_of e r

@@ -138,7 +138,7 @@ module _ (e : List ℕ) (low : AllBytes e) (a : Acceptable e) (hs t : List ℕ) 
       let l = text_at e k in
       let n = length l - 1 in
       let h = get_or hs k 0 in
-      sym (row_accepted e true h k refl) ∙ ap (λ (b : List ℕ). take n l ++ b ++ height_text h) (gap_spaces n).1
+      sym (row_accepted e h k) ∙ ap (λ (b : List ℕ). take n l ++ b ++ height_text h) (gap_spaces n).1
       ∙ ap (λ (b : List ℕ). take n l ++ replicate (gap_spaces n).0 32 ++ b) (height_comment h).1
 
   back_next : (i : ℕ) → i < length e → Back (next e i) → Back i

@@ -1,10 +1,12 @@
 -- The bytes of an expression line by line, for the proofs of the functions of `bytes`. Assumes nothing.
-use Prim.Native.Nat.{ℕ, zero, suc, ◌+◌, ◌-◌, ◌*◌, ◌/◌, ◌≤◌, ◌<◌, min}
+use Prim.Native.Nat.{ℕ, zero, suc, ◌+◌, ◌*◌, ◌/◌, ◌≤◌, ◌<◌, min}
 use native.Mathlib.Omega.{arith}
-use mathlib.Core.List.{List, [], ◌∷◌, ◌++◌}
+use mathlib.Core.List.{List, [], ◌∷◌, ◌++◌, append-nil}
 use mathlib.Core.Path.{◌≡◌, refl, sym, ap, ◌∙◌}
 use lib.ListN.{length, take, drop, length-drop, length-append, take-append-drop, drop_of_length-le}
-use lib.Seq.{take_all, drop-drop}
+use lib.Seq.{take_all}
+use Rattle.std.proofs.Math.Seq.{take-append_seam, drop-append_seam}
+use Rattle.std.proofs.lemmas.List.{nil_from_length}
 use borrow.Author.Tests.{eq-eqb, ne_eqb}
 use Rattle.logic.proofs.Promises.{cases}
 use Rattle.hexadecimal.specs.Hex.{hex_of}
@@ -31,6 +33,23 @@ lines_enough (suc n) (suc m) l h g =
     ∙ lines_some m l s)
     (λ z. sym (lines_none (suc n) l (omega arith)) ∙ lines_none (suc m) l (omega arith))
 
+-- ---- a part in front that is short only where less is left
+module _ (l part rest : List ℕ) (p : l ≡ part ++ rest) (n : length part ≡ min 40 (length l)) where
+  sizes : length l ≡ length part + length rest
+  sizes = ap length p ∙ length-append part rest
+
+  part_taken : take 40 l ≡ part
+  part_taken =
+      cases (length part) 40
+      (λ h. take_all 40 l (omega (arith, sizes)) ∙ p ∙ ap (λ (r : List ℕ). part ++ r) (nil_from_length rest (omega (arith, sizes))) ∙ append-nil part)
+      (λ h. let z : 40 ≡ length part = omega arith in ap (take 40) p ∙ ap (λ (j : ℕ). take j (part ++ rest)) z ∙ take-append_seam part rest)
+
+  part_dropped : drop 40 l ≡ rest
+  part_dropped =
+      cases (length part) 40
+      (λ h. drop_of_length-le l {i = 40} (omega (arith, sizes)) ∙ sym (nil_from_length rest (omega (arith, sizes))))
+      (λ h. let z : 40 ≡ length part = omega arith in ap (drop 40) p ∙ ap (λ (j : ℕ). drop j (part ++ rest)) z ∙ drop-append_seam part rest)
+
 -- ---- a line, and the rest
 bytes_none : (l : List ℕ) → length l ≡ 0 → [] ≡ bytes_text l
 unfolding bytes_text
@@ -43,28 +62,15 @@ bytes_some l h =
     ∙ lines_some (length l) l h
     ∙ lines_enough (suc (length l)) (length l) l (omega arith) (omega arith)
 
--- from byte k on, as the code has them
-module _ (e : List ℕ) (k : ℕ) (h : k < length e) (end : ℕ) (is : end ≡ k + min 40 (length e - k)) where
-  part_is : take (end - k) (drop k e) ≡ take 40 (drop k e)
-  part_is =
-      cases (length e - k) 40
-      (λ s. take_all (end - k) (drop k e) (omega (arith, length-drop k e)) ∙ sym (take_all 40 (drop k e) (omega (arith, length-drop k e))))
-      (λ s. let z : end - k ≡ 40 = omega arith in ap (λ (j : ℕ). take j (drop k e)) z)
+-- a line comes off the front, and is short only where less is left
+pub bytes_part : (l part rest : List ℕ) → l ≡ part ++ rest → length part ≡ min 40 (length l) → 0 < length l → bytes_line part ++ bytes_text rest ≡ bytes_text l
+bytes_part l part rest p n h =
+    ap (λ (t : List ℕ). bytes_line t ++ bytes_text rest) (sym (part_taken l part rest p n))
+    ∙ ap (λ (t : List ℕ). bytes_line (take 40 l) ++ bytes_text t) (sym (part_dropped l part rest p n))
+    ∙ bytes_some l h
 
-  rest_is : drop end e ≡ drop 40 (drop k e)
-  rest_is =
-      cases (length e - k) 40
-      (λ s. drop_of_length-le e {i = end} (omega arith) ∙ sym (drop_of_length-le (drop k e) {i = 40} (omega (arith, length-drop k e))))
-      (λ s. let z : end ≡ k + 40 = omega arith in ap (λ (j : ℕ). drop j e) z ∙ sym (drop-drop 40 k e))
-
-  pub bytes_part : bytes_line (take (end - k) (drop k e)) ++ bytes_text (drop end e) ≡ bytes_text (drop k e)
-  bytes_part =
-      ap (λ (t : List ℕ). bytes_line t ++ bytes_text (drop end e)) part_is
-      ∙ ap (λ (t : List ℕ). bytes_line (take 40 (drop k e)) ++ bytes_text t) rest_is
-      ∙ bytes_some (drop k e) (omega (arith, length-drop k e))
-
-pub bytes_end : (e : List ℕ) (k : ℕ) → length e ≤ k → [] ≡ bytes_text (drop k e)
-bytes_end e k h = bytes_none (drop k e) (omega (arith, length-drop k e))
+pub bytes_end : (l : List ℕ) → length l ≡ 0 → [] ≡ bytes_text l
+bytes_end = bytes_none
 
 -- ---- how long they are: two characters a byte, and seven more a line
 hex_length : (l : List ℕ) → length (hex_of l) ≡ 2 * length l

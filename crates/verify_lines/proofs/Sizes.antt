@@ -17,7 +17,7 @@ use Rattle.phrases.specs.Refused.{refusals, refusal_of, refused_at}
 use Rattle.text_buffer.specs.Text.{bytes_of, Appends}
 use Rattle.text_buffer.proofs.Promises.{text_of, decimal_length}
 use Rattle.sizes.specs.Sizes.{expression_most, stack_cells}
-use Rattle.refusals.specs.declared.Refusal.{Refusal}
+use Rattle.refusals.specs.Refusal.{Refusal}
 use Rattle.refusals.specs.Numbers.{expression_size}
 use Rattle.isa.specs.Classes.{class_of, kind, kind_unknown}
 use Rattle.isa.specs.Decode.{next}

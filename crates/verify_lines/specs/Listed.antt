@@ -1,12 +1,13 @@
 -- The whole answer on an expression: the verdict, and where it is asked for a listing, which has heights where the
 -- expression was accepted.
-use Rattle.std.specs.Prelude.{ℕ, ◌-◌, Bool, true, false, cond, ◌&&◌, List, [], ◌∷◌, ◌++◌, map, ltb, length, take, get_or, replicate}
+use Rattle.std.specs.Prelude.{◌≡◌, ℕ, ◌-◌, Option, Some, None, Bool, true, false, cond, ◌&&◌, List, [], ◌∷◌, ◌++◌, map, ltb, length, take, get_or, replicate}
 use Rattle.text_buffer.specs.Text.{bytes_of}
 use Rattle.sizes.specs.Sizes.{expression_most}
 use Rattle.isa.specs.Starts.{starts}
 use Rattle.verdict.specs.Verdict.{Verdict, accepted, refused}
 use Rattle.instruction_text.specs.Text.{text_at, is_instruction}
 use Rattle.listing.specs.Listing.{joined_lines}
+use Rattle.heights.specs.Arrivals.{height_or_mark, marked, NoMark}
 use Rattle.verify_lines.specs.Verdict.{verdict_text, height_text}
 
 -- blanks behind a text of n characters: up to column 36, at least one
@@ -20,6 +21,19 @@ beside_text l h = take (length l - 1) l ++ gap_text (length l - 1) ++ height_tex
 -- the line of the instruction at k, with the height h beside it where the expression was accepted (a)
 unfoldable pub row_text : List ℕ → Bool → ℕ → ℕ → List ℕ
 row_text e a h k = cond a (beside_text (text_at e k) h) (text_at e k)
+
+-- the number of what the code has beside a row, and its cells of heights as numbers: none where the expression is refused
+abbrev pub cell_of : Option (Option ℕ) → ℕ
+cell_of None = 0
+cell_of (Some c) = height_or_mark c
+
+abbrev pub cells_of : Option (List (Option ℕ)) → List ℕ
+cells_of None = []
+cells_of (Some hs) = marked hs
+
+-- a cell for each offset, and no height that is the mark
+abbrev pub HasCells : List (Option ℕ) → Type 0
+HasCells hs = (length hs ≡ expression_most) × NoMark hs
 
 -- a row is for a whole supported instruction, at one of the 1,024 offsets that have a height
 unfoldable pub is_listed_of : List ℕ → ℕ → Bool

@@ -3,7 +3,7 @@ use Rattle.std.specs.Prelude.{ℕ, cond, List, [], ◌++◌, leb, eqb, length, g
 use Rattle.text_buffer.specs.Text.{bytes_of}
 use Rattle.hexadecimal.specs.Hex.{pair_of}
 use Rattle.phrases.specs.Refused.{refusal_of, refused_at}
-use Rattle.refusals.specs.declared.Refusal.{Refusal}
+use Rattle.refusals.specs.Refusal.{Refusal}
 use Rattle.refusals.specs.Numbers.{expression_size}
 use Rattle.isa.specs.Classes.{class_of, kind, kind_unknown}
 use Rattle.verdict.specs.Pass3.{unreached}

@@ -1,51 +1,38 @@
 // The bytes of an expression, in lines of hexadecimal.
-ghost use Rattle.std.specs.Prelude.{◌≡◌, ◌+◌, ◌-◌, ◌≤◌, min};
+ghost use Rattle.std.specs.Prelude.{◌≡◌};
 ghost use Rattle.io.specs.Counts.{IsPrefixLen};
 ghost use Rattle.text_buffer.specs.Text.{Appends};
 ghost use Rattle.verify_lines.specs.Bytes.{bytes_line, bytes_text};
 
-use text_buffer::append;
+use text_buffer::TextBuffer;
 
-fn append_line(out: &mut [u8], at: usize, bytes: &[u8]) -> usize
-    ensures count { IsPrefixLen result out.new }
-    ensures text { Appends out.old at (bytes_line bytes.now) out.new result }
+fn append_line(text: &mut TextBuffer, bytes: &[u8])
+    ensures count { IsPrefixLen text.new.end text.new.bytes.now }
+    ensures text { Appends text.old.bytes.now text.old.end (bytes_line bytes.now) text.new.bytes.now text.new.end }
+    ensures lent { text.new.bytes.ghost_name ≡ text.old.bytes.ghost_name }
 {
-    let a = append(out, at, b"bytes ");
-    let b = hexadecimal::encode(out, a, bytes);
-    append(out, b, b"\n")
+    text.append(b"bytes ");
+    hexadecimal::encode(text, bytes);
+    text.append(b"\n");
 }
 
-// Where the line that begins at byte `at` of `size` ends.
-fn line_end(size: usize, at: usize) -> usize
-    requires { at ≤ size }
-    ensures { result ≡ at + min 40 (size - at) }
+fn append_lines(text: &mut TextBuffer, code: &[u8])
+    requires { IsPrefixLen text.old.end text.old.bytes.now }
+    ensures count { IsPrefixLen text.new.end text.new.bytes.now }
+    ensures text { Appends text.old.bytes.now text.old.end (bytes_text code.now) text.new.bytes.now text.new.end }
+    ensures lent { text.new.bytes.ghost_name ≡ text.old.bytes.ghost_name }
 {
-    if size - at < 40 {
-        return size;
+    for line in code.chunks(40) {
+        append_line(text, line);
     }
-    at + 40
-}
-
-fn append_lines(out: &mut [u8], at: usize, code: &[u8]) -> usize
-    requires { IsPrefixLen at out.old }
-    ensures count { IsPrefixLen result out.new }
-    ensures text { Appends out.old at (bytes_text code.now) out.new result }
-{
-    let mut n = at;
-    let mut k = 0;
-    while k < code.len() {
-        let end = line_end(code.len(), k);
-        n = append_line(out, n, &code[k..end]);
-        k = end;
-    }
-    n
 }
 
 // Appends the bytes of an expression, 40 a line.
-pub fn append_bytes(out: &mut [u8], at: usize, code: &[u8]) -> usize
-    ensures count { IsPrefixLen result out.new }
-    ensures text { Appends out.old at (bytes_text code.now) out.new result }
+pub fn append_bytes(text: &mut TextBuffer, code: &[u8])
+    ensures count { IsPrefixLen text.new.end text.new.bytes.now }
+    ensures text { Appends text.old.bytes.now text.old.end (bytes_text code.now) text.new.bytes.now text.new.end }
+    ensures lent { text.new.bytes.ghost_name ≡ text.old.bytes.ghost_name }
 {
-    let a = append(out, at, b"");
-    append_lines(out, a, code)
+    text.append(b"");
+    append_lines(text, code);
 }

@@ -1,5 +1,4 @@
-// What verify answers, as lines of text. Each function appends to a text in a lent buffer, as those of
-// `text_buffer` do: `at` is where the text so far ends, and the answer is where it ends then.
+// What verify answers, as lines of text. Each function appends to a text buffer.
 #![tactic(auto)]
 
 pub mod bytes;

@@ -1,104 +1,119 @@
 // The verdict on an expression.
+ghost use Rattle.std.specs.Prelude.{◌≡◌};
 ghost use Rattle.io.specs.Counts.{IsPrefixLen};
 ghost use Rattle.text_buffer.specs.Text.{Appends};
+ghost use Rattle.refusals.specs.Refusal.{told};
 ghost use Rattle.verdict.specs.Verdict.{verdict_of};
+ghost use Rattle.heights.specs.Arrivals.{height_or_mark};
 ghost use Rattle.verify_lines.specs.Verdict.{accepted_text, opcode_text, there_text, instruction_of, refused_line, verdict_text, height_text};
 
 use instruction_text::names::append_name;
 use instruction_text::writing::{append_plain, is_instruction};
+use isa::Kind;
 use phrases::numbers::append_count;
 use phrases::refused::{append_refusal, append_refused_at};
-use refusals::Refusal;
-use text_buffer::{append, append_number};
-use verdict::Verification;
+use refusals::{Reason, Refusal};
+use text_buffer::TextBuffer;
+use verdict::Accepted;
 
-fn append_accepted(out: &mut [u8], at: usize, count: usize, height: u8, walk: usize) -> usize
-    ensures count { IsPrefixLen result out.new }
-    ensures text { Appends out.old at (accepted_text count height walk) out.new result }
+fn append_accepted(text: &mut TextBuffer, accepted: Accepted)
+    ensures count { IsPrefixLen text.new.end text.new.bytes.now }
+    ensures text { Appends text.old.bytes.now text.old.end (accepted_text accepted.count accepted.greatest accepted.longest) text.new.bytes.now text.new.end }
+    ensures lent { text.new.bytes.ghost_name ≡ text.old.bytes.ghost_name }
 {
-    let a = append(out, at, b"accepted: ");
-    let b = append_count(out, a, count as u64, b"instruction");
-    let c = append(out, b, b", greatest height ");
-    let d = append_number(out, c, height as u64);
-    let e = append(out, d, b", longest walk ");
-    let f = append_number(out, e, walk as u64);
-    append(out, f, b"\n")
+    text.append(b"accepted: ");
+    append_count(text, accepted.count as u64, b"instruction");
+    text.append(b", greatest height ");
+    text.append_number(u64::from(accepted.greatest));
+    text.append(b", longest walk ");
+    text.append_number(accepted.longest as u64);
+    text.append(b"\n");
 }
 
-fn append_opcode(out: &mut [u8], at: usize, opcode: u8) -> usize
-    ensures count { IsPrefixLen result out.new }
-    ensures text { Appends out.old at (opcode_text opcode) out.new result }
+fn append_opcode(text: &mut TextBuffer, opcode: u8)
+    ensures count { IsPrefixLen text.new.end text.new.bytes.now }
+    ensures text { Appends text.old.bytes.now text.old.end (opcode_text opcode) text.new.bytes.now text.new.end }
+    ensures lent { text.new.bytes.ghost_name ≡ text.old.bytes.ghost_name }
 {
-    if isa::look_up(opcode).kind == isa::UNKNOWN {
-        let a = append(out, at, b" (opcode ");
-        let b = hexadecimal::append_byte(out, a, opcode);
-        return append(out, b, b")");
+    if isa::look_up(opcode).kind == Kind::Unknown {
+        text.append(b" (opcode ");
+        hexadecimal::append_byte(text, opcode);
+        text.append(b")");
+        return;
     }
-    let a = append(out, at, b" (");
-    let b = append_name(out, a, opcode);
-    append(out, b, b")")
+    text.append(b" (");
+    append_name(text, opcode);
+    text.append(b")");
 }
 
 // What stands at an offset: the instruction, or the opcode where no whole supported instruction does.
-fn append_there(out: &mut [u8], at: usize, code: &[u8], offset: usize) -> usize
-    ensures count { IsPrefixLen result out.new }
-    ensures text { Appends out.old at (there_text code.now offset) out.new result }
+fn append_there(text: &mut TextBuffer, code: &[u8], offset: usize)
+    ensures count { IsPrefixLen text.new.end text.new.bytes.now }
+    ensures text { Appends text.old.bytes.now text.old.end (there_text code.now offset) text.new.bytes.now text.new.end }
+    ensures lent { text.new.bytes.ghost_name ≡ text.old.bytes.ghost_name }
 {
     if code.len() <= offset {
-        return append(out, at, b"");
+        text.append(b"");
+        return;
     }
     if !is_instruction(code, offset) {
-        return append_opcode(out, at, code[offset]);
+        append_opcode(text, code[offset]);
+        return;
     }
-    let a = append(out, at, b" (");
-    let b = append_plain(out, a, code, offset);
-    append(out, b, b")")
+    text.append(b" (");
+    append_plain(text, code, offset);
+    text.append(b")");
 }
 
 // Refusal 1 is of no instruction.
-fn append_instruction(out: &mut [u8], at: usize, code: &[u8], refusal: Refusal) -> usize
-    ensures count { IsPrefixLen result out.new }
-    ensures text { Appends out.old at (instruction_of code.now refusal) out.new result }
+fn append_instruction(text: &mut TextBuffer, code: &[u8], refusal: Refusal)
+    ensures count { IsPrefixLen text.new.end text.new.bytes.now }
+    ensures text { Appends text.old.bytes.now text.old.end (instruction_of code.now (told refusal)) text.new.bytes.now text.new.end }
+    ensures lent { text.new.bytes.ghost_name ≡ text.old.bytes.ghost_name }
 {
-    if refusal.number == refusals::EXPRESSION_SIZE {
-        return append(out, at, b"");
+    match refusal.reason {
+        Reason::ExpressionSize => text.append(b""),
+        _ => append_there(text, code, refusal.offset),
     }
-    append_there(out, at, code, refusal.offset)
 }
 
-fn append_refused(out: &mut [u8], at: usize, code: &[u8], refusal: Refusal) -> usize
-    ensures count { IsPrefixLen result out.new }
-    ensures text { Appends out.old at (refused_line code.now refusal) out.new result }
+fn append_refused(text: &mut TextBuffer, code: &[u8], refusal: Refusal)
+    ensures count { IsPrefixLen text.new.end text.new.bytes.now }
+    ensures text { Appends text.old.bytes.now text.old.end (refused_line code.now (told refusal)) text.new.bytes.now text.new.end }
+    ensures lent { text.new.bytes.ghost_name ≡ text.old.bytes.ghost_name }
 {
-    let a = append_refused_at(out, at, refusal.number, refusal.offset);
-    let b = append_instruction(out, a, code, refusal);
-    let c = append(out, b, b": ");
-    let d = append_refusal(out, c, refusal.number);
-    append(out, d, b"\n")
+    let number = refusal.reason.number();
+    append_refused_at(text, number, refusal.offset);
+    append_instruction(text, code, refusal);
+    text.append(b": ");
+    append_refusal(text, number);
+    text.append(b"\n");
 }
 
 // Appends what the verifier answers on an expression.
-pub fn append_verdict(out: &mut [u8], at: usize, code: &[u8], answer: Verification) -> usize
-    ensures count { IsPrefixLen result out.new }
-    ensures text { Appends out.old at (verdict_text code.now (verdict_of answer)) out.new result }
+pub fn append_verdict(text: &mut TextBuffer, code: &[u8], answer: Result<Accepted, Refusal>)
+    ensures count { IsPrefixLen text.new.end text.new.bytes.now }
+    ensures text { Appends text.old.bytes.now text.old.end (verdict_text code.now (verdict_of answer)) text.new.bytes.now text.new.end }
+    ensures lent { text.new.bytes.ghost_name ≡ text.old.bytes.ghost_name }
 {
     match answer {
-        Verification::Accepted(count, height, walk) => append_accepted(
-            out, at, count, height, walk,
-        ),
-        Verification::Refused(refusal) => append_refused(out, at, code, refusal),
+        Ok(accepted) => append_accepted(text, accepted),
+        Err(refusal) => append_refused(text, code, refusal),
     }
 }
 
-// Appends the height beside an instruction of a listing.
-pub fn append_height(out: &mut [u8], at: usize, height: u8) -> usize
-    ensures count { IsPrefixLen result out.new }
-    ensures text { Appends out.old at (height_text height) out.new result }
+// Appends the height beside an instruction of a listing, where it is reached. The mark of the tables says that it is not.
+pub fn append_height(text: &mut TextBuffer, height: Option<u8>)
+    ensures count { IsPrefixLen text.new.end text.new.bytes.now }
+    ensures text { Appends text.old.bytes.now text.old.end (height_text (height_or_mark height)) text.new.bytes.now text.new.end }
+    ensures lent { text.new.bytes.ghost_name ≡ text.old.bytes.ghost_name }
 {
-    if height == verdict::UNREACHED {
-        return append(out, at, b"# not reached\n");
+    match height {
+        Some(height) if height != verdict::UNREACHED => {
+            text.append(b"# height ");
+            text.append_number(u64::from(height));
+            text.append(b"\n");
+        }
+        _ => text.append(b"# not reached\n"),
     }
-    let a = append(out, at, b"# height ");
-    let b = append_number(out, a, height as u64);
-    append(out, b, b"\n")
 }

@@ -1,5 +1,5 @@
 -- The pass that accepts or is in doubt, over code with jumps: what it knows at a start.
-use Rattle.std.specs.Prelude.{true, false, cond, List, [], ◌∷◌, ◌≢◌, ◌⊎◌, ◌≡◌, ℕ, ◌+◌, ◌≤◌, ◌<◌, max, get_or, length, eqb}
+use Rattle.std.specs.Prelude.{true, cond, List, [], ◌∷◌, ◌≢◌, ◌⊎◌, ◌≡◌, ℕ, ◌+◌, ◌≤◌, ◌<◌, max, get_or, length, eqb}
 use Rattle.sizes.specs.Sizes.{expression_most, stack_cells}
 use Rattle.isa.specs.Decode.{operand, needed, height_after}
 use Rattle.isa.specs.Starts.{starts, starts_from, is_start}
@@ -7,13 +7,11 @@ use Rattle.verdict.specs.Fault.{first}
 use Rattle.verdict.specs.Pass1.{fault1, pass1, Decodes}
 use Rattle.verdict.specs.Pass2.{fault2, pass2, Aims}
 use Rattle.verdict.specs.Pass3.{unreached, arrive, raise}
-use Rattle.verdict.specs.Verdict.{accepted, verdict, SetsNothing}
 use Rattle.passes.specs.Joining.Tables.{Incoming, Measuring}
-use Rattle.acceptor.specs.Joining.StraightCode.{stop_on, stop_accepted, SetsNothingBefore}
-use Rattle.passes.specs.declared.brought.Flow.{Flow}
-use Rattle.acceptor.specs.declared.branching.JoinEnd.{JoinEnd}
-use Rattle.acceptor.specs.declared.branching.JumpEnd.{JumpEnd}
-use Rattle.acceptor.specs.declared.Progress.{Progress}
+use Rattle.acceptor.specs.Joining.StraightCode.{SetsNothingBefore, Accepts}
+use Rattle.acceptor.specs.declared.branching.Progress.{Progress}
+use Rattle.acceptor.specs.declared.branching.Turn.{Turn}
+use Rattle.acceptor.specs.declared.branching.Turn.TheVariants.{On, Accepted}
 
 -- ---- how many offsets jumps have noted
 abbrev pub noted_one : ℕ → ℕ
@@ -36,34 +34,35 @@ pub record Pending (e : List ℕ) (k : ℕ) (hs : List ℕ) (t m : ℕ) : Type 0
 abbrev pub NotedStarts : List ℕ → List ℕ → Type 0
 NotedStarts e hs = (j : ℕ) → j < length e → get_or hs j 0 ≢ unreached → is_start e j ≡ true
 
--- ---- what is joined at a start, where jumps have brought c and b, and h and d flow in
-abbrev pub Joins : ℕ → ℕ → ℕ → ℕ → ℕ → JoinEnd → Type 0
-Joins c b h d m r = ((c ≡ unreached) × (r.distance ≡ d) × (r.met ≡ m)) ⊎ ((c ≡ h) × (c ≢ unreached) × (r.distance ≡ max b d) × (r.met ≡ m + 1))
+-- ---- from one state to another
+-- r is s at a start where jumps have brought c and b
+abbrev pub Joins : ℕ → ℕ → Progress → Progress → Type 0
+Joins c b s r = ((c ≡ unreached) × (r ≡ s)) ⊎ ((c ≡ s.height) × (c ≢ unreached) × (r ≡ record s { distance = max b s.distance; met = s.met + 1 }))
 
-pub record JoinsOr (c b h d m : ℕ) (r : JoinEnd) : Type 0 where
-  pub both : r.stop ≡ stop_on → Joins c b h d m r
-
--- what jumps have brought to k
-pub record Brought (hs ds : List ℕ) (k : ℕ) (r : Flow) : Type 0 where
-  pub height_is : r.height ≡ get_or hs k 0
+-- r is s where nothing flows in: with what jumps have brought to it
+pub record FromJumps (hs ds : List ℕ) (s r : Progress) : Type 0 where
+  pub same : r ≡ record s { height = r.height; distance = r.distance }
+  pub height_is : r.height ≡ get_or hs s.at 0
+  pub distance_is : r.distance ≡ get_or ds s.at 0
   pub small : r.height < 256
-  pub distance_is : r.distance ≡ get_or ds k 0
+  pub low : r.height ≤ s.greatest
 
--- ---- a jump
-pub record JumpsOn (e : List ℕ) (k h d t : ℕ) (hs ds : List ℕ) (r : JumpEnd) (hs' ds' : List ℕ) : Type 0 where
-  pub room : k + 3 < length e
-  pub low : h ≤ stack_cells
-  pub cells : needed e k ≤ h
-  pub forward : k < operand e k
-  pub inside : operand e k < length e
-  pub height_is : r.height ≡ height_after e k h
-  pub new : get_or hs (operand e k) 0 ≡ unreached → r.noted ≡ t + 1
-  pub old : get_or hs (operand e k) 0 ≢ unreached → r.noted ≡ t
-  pub heights_are : hs' ≡ arrive (height_after e k h) (operand e k) hs
-  pub distances_are : ds' ≡ raise (d + 1) (operand e k) ds
+-- the state behind an instruction that raises no height: one more is counted
+abbrev pub progress_behind : Progress → ℕ → ℕ → ℕ → ℕ → ℕ → Progress
+progress_behind s k h d l t = record s { at = k; height = h; distance = d; count = s.count + 1; longest = l; noted = t }
 
-pub record Jumped (e : List ℕ) (k h d t : ℕ) (hs ds : List ℕ) (r : JumpEnd) (hs' ds' : List ℕ) : Type 0 where
-  pub on : r.stop ≡ stop_on → JumpsOn e k h d t hs ds r hs' ds'
+-- r is s behind a jump, whose target and next start lie within the bytes
+pub record JumpsOn (e : List ℕ) (s : Progress) (hs ds hs' ds' : List ℕ) (r : Progress) : Type 0 where
+  pub same : r ≡ progress_behind s (s.at + 3) (height_after e s.at s.height) (s.distance + 1) s.longest r.noted
+  pub room : s.at + 3 < length e
+  pub low : s.height ≤ stack_cells
+  pub cells : needed e s.at ≤ s.height
+  pub forward : s.at < operand e s.at
+  pub inside : operand e s.at < length e
+  pub new : get_or hs (operand e s.at) 0 ≡ unreached → r.noted ≡ s.noted + 1
+  pub old : get_or hs (operand e s.at) 0 ≢ unreached → r.noted ≡ s.noted
+  pub heights_are : hs' ≡ arrive (height_after e s.at s.height) (operand e s.at) hs
+  pub distances_are : ds' ≡ raise (s.distance + 1) (operand e s.at) ds
 
 -- ---- the loop
 -- It stands at the start k after n instructions, all of them reached; h and d flow in, g is the greatest height, l the
@@ -101,14 +100,7 @@ pub record BranchingJoined (e : List ℕ) (s : Progress) (hs ds : List ℕ) : Ty
       → Incoming (get_or hs s.at 0) (get_or ds s.at 0) s.height flow (record { height = s.height; distance = s.distance })
   pub quiet : SetsNothingBefore e s.at s.sets
 
--- what the pass answers: where it accepts, the verdict
-pub record Concluded (e : List ℕ) (r : Progress) : Type 0 where
-  pub low : r.stop ≡ stop_accepted → r.greatest ≤ stack_cells
-  pub accepts : r.stop ≡ stop_accepted → accepted r.count r.greatest r.longest ≡ verdict e
-  pub quiet : r.stop ≡ stop_accepted → r.sets ≡ false → SetsNothing e
-
--- one start: on, in doubt, or accepted
-pub record Turns (e : List ℕ) (k : ℕ) (r : Progress) (hs ds : List ℕ) : Type 0 where
-  pub later : r.stop ≡ stop_on → k < r.at
-  pub on : r.stop ≡ stop_on → r.at < length e → Branching e r hs ds
-  pub concluded : Concluded e r
+-- what one start leads to
+abbrev pub Turns : List ℕ → ℕ → List ℕ → List ℕ → Turn → Type 0
+Turns e k hs ds (On s) = (k < s.at) × (s.at < length e → Branching e s hs ds)
+Turns e k hs ds (Accepted a) = Accepts e a

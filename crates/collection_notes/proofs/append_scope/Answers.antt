@@ -1,3 +1,4 @@
+use Rattle.std.proofs.Common.{rules}
 use Rattle.text_buffer.proofs.Promises.{one, more}
 use Rattle.text_buffer.specs.Text.{bytes_of}
 use Rattle.phrases.specs.Numbers.{hex_text}
@@ -6,4 +7,4 @@ use Rattle.collection_notes.proofs.append_scope.Goals as goal
 
 pub returns : goal.returns
 unfolding scope_text
-returns c = record { count = c.append.ensures.count; text = (more (more (one (bytes_of "Scope: 0x") c.append-a.ensures.text) (hex_text c.args.address) c.append_address-b.ensures.text) (bytes_of "\n") c.append.ensures.text).text }
+returns c = record { count = c.append-2.ensures.count; text = (more (more (one (bytes_of "Scope: 0x") c.append.ensures.text) (hex_text c.args.address) c.append_address.ensures.text) (bytes_of "\n") c.append-2.ensures.text).text; lent = search rules }

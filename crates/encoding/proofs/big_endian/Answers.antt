@@ -9,10 +9,10 @@ pub overflow_mul-number : goal.overflow_mul-number
 overflow_mul-number c = omega (arith, reading_room c.loop-read.invariant c.requires.count c.loop-read-test.true)
 
 pub overflow_add-number : goal.overflow_add-number
-overflow_add-number c = omega (arith, reading_room c.loop-read.invariant c.requires.count c.loop-read-test.true, c.wide.ensures)
+overflow_add-number c = omega (arith, reading_room c.loop-read.invariant c.requires.count c.loop-read-test.true, c.from.ensures)
 
 pub loop-read-preserved : goal.loop-read-preserved
-loop-read-preserved c = reading_turn c.loop-read.invariant c.loop-read-test.true c.wide.ensures.0 c.wide.ensures.1
+loop-read-preserved c = reading_turn c.loop-read.invariant c.loop-read-test.true c.from.ensures (omega arith)
 
 pub returns : goal.returns
 returns c = reading_end c.loop-read.invariant c.loop-read-test.false

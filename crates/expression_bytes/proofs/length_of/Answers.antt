@@ -1,18 +1,20 @@
-use native.Mathlib.Omega.{arith}
-use Rattle.expression_bytes.proofs.Reading.{front_end, front_list, front_by}
+use mathlib.Core.Path.{sym, ◌∙◌}
+use Rattle.expression_bytes.proofs.Reading.{front_end, front_list, front_by, by_none, by_some}
 use Rattle.expression_bytes.proofs.length_of.Goals as goal
 
-pub returns-then-k-word : goal.returns-then-k-word
-returns-then-k-word c = front_end _ _ c.comma-k.ensures.0 c.if-k-word.true
+pub returns-in_err-comma-clause-front : goal.returns-in_err-comma-clause-front
+returns-in_err-comma-clause-front c = rw c.from_residual.ensures (front_end _ (sym c.in_err-comma.was ∙ c.first_comma.ensures))
 
-pub returns-then-is_list : goal.returns-then-is_list
-returns-then-is_list c = front_list _ _ c.comma-k.ensures.0 c.if-k-word.false _ c.is_list.ensures c.if-is_list.true
+pub returns-then-is_list-clause-front : goal.returns-then-is_list-clause-front
+returns-then-is_list-clause-front c = front_list _ _ (sym c.in_ok-comma.was ∙ c.first_comma.ensures) _ c.is_list.ensures c.if-is_list.true
 
-pub returns-in-Large : goal.returns-in-Large
-returns-in-Large c = (front_by _ _ c.comma-k.ensures.0 c.if-k-word.false _ c.is_list.ensures c.if-is_list.false _ c.in-Large.ensures, omega arith)
+pub returns-in_err-value-clause-front : goal.returns-in_err-value-clause-front
+returns-in_err-value-clause-front c =
+    rw c.from_residual-in_err-value.ensures
+    (by_none _ _ (sym c.in_err-value.was ∙ c.ok.ensures.value)
+    ∙ front_by c.args.word.now _ (sym c.in_ok-comma.was ∙ c.first_comma.ensures) _ c.is_list.ensures c.if-is_list.false _ c.unsigned.ensures)
 
-pub returns-in-Not : goal.returns-in-Not
-returns-in-Not c = (front_by _ _ c.comma-k.ensures.0 c.if-k-word.false _ c.is_list.ensures c.if-is_list.false _ c.in-Not.ensures, omega arith)
-
-pub returns-in-Value : goal.returns-in-Value
-returns-in-Value c = (front_by _ _ c.comma-k.ensures.0 c.if-k-word.false _ c.is_list.ensures c.if-is_list.false _ c.in-Value.ensures, omega (arith, c.comma-k.ensures.1, c.if-k-word.false))
+pub returns-clause-front : goal.returns-clause-front
+returns-clause-front c =
+    by_some _ _ _ (sym c.in_ok-value.was ∙ c.ok.ensures.value)
+    ∙ front_by c.args.word.now _ (sym c.in_ok-comma.was ∙ c.first_comma.ensures) _ c.is_list.ensures c.if-is_list.false _ c.unsigned.ensures

@@ -3,7 +3,8 @@ use mathlib.Core.List.{List}
 use mathlib.Core.Path.{refl, ap, ◌∙◌}
 use lib.ListN.{length}
 use Rattle.encoding.proofs.Promises.{part_lent}
-use Rattle.hexadecimal.specs.Hex.{reading_of, hex_answer_of, written_over}
+use Rattle.hexadecimal.specs.Hex.{reading_of, written_over}
+use Rattle.hexadecimal.specs.Told.{hex_answer_of}
 use Rattle.expression_bytes.proofs.read_from.Goals as goal
 
 pub returns : goal.returns

@@ -24,12 +24,12 @@ pub returns-then-bytes-eq77 : goal.returns-then-bytes-eq77
 returns-then-bytes-eq77 c =
     let l = c.args.bytes.now in
     let address : c.little_endian-address.result ≡ field l 1 8 = c.little_endian-address.ensures.0 in
-    let count : c.little_endian-count.result ≡ field l 9 2 = c.little_endian-count.ensures.0 in
+    let count : c.little_endian-length.result ≡ field l 9 2 = c.little_endian-length.ensures.0 in
     rw (address, count) (tells_memory l c.requires (omega arith))
 
 pub returns : goal.returns
 returns c =
     let l = c.args.bytes.now in
-    let number : c.wide-number.result ≡ get_or l 1 0 = c.wide-number.ensures.0 in
+    let number : c.from-number.result ≡ get_or l 1 0 = c.from-number.ensures in
     let value : c.little_endian-value.result ≡ field l 5 8 = c.little_endian-value.ensures.0 in
     rw (number, value) (tells_variable l c.requires (λ e. omega arith))

@@ -1,17 +1,15 @@
 -- Between the functions: what a writer has answered and left, and what a reader of a record or of a trailer answers,
 -- in plain numbers.
-use Rattle.std.specs.Prelude.{List, ◌≡◌, ℕ, ◌+◌, ◌≤◌, length}
+use Rattle.std.specs.Prelude.{Option, Some, None, List, ◌≡◌, ℕ, ◌+◌, ◌≤◌, length}
 use Rattle.encoding.specs.Written.{written_at}
 use Rattle.frames.specs.Record.{Record, memory, variable, size, Decoded, found, broken}
 use Rattle.frames.specs.Trailer.{TrailerRead, trailer, broken_trailer}
-use Rattle.frames.specs.declared.Put.{Put}
-use Rattle.frames.specs.declared.RecordFields.{RecordFields}
-use Rattle.frames.specs.declared.RecordFields.TheVariants.{Memory, Variable}
-use Rattle.frames.specs.declared.Ending.{Ending}
-use Rattle.frames.specs.declared.Ending.TheVariants.{Closes, NoTrailer}
+use Rattle.frames.specs.declared.Record as code
+use Rattle.frames.specs.declared.Record.TheVariants.{Memory, Variable}
+use Rattle.frames.specs.declared.trailer.Trailer.{Trailer}
 
 -- a writer gave this answer and left these bytes
-pub record Leaves (w : Put × List ℕ) (r : Put) (l : List ℕ) : Type 0 where
+pub record Leaves (w : Option ℕ × List ℕ) (r : Option ℕ) (l : List ℕ) : Type 0 where
   pub answer : r ≡ w.0
   pub bytes : l ≡ w.1
 
@@ -22,22 +20,22 @@ pub record PutWhole (buffer : List ℕ) (used : ℕ) (e : List ℕ) (n : ℕ) (l
   pub bytes : l ≡ written_at buffer used e
 
 -- ---- readers
--- the number of bytes of the record that is found; 0 where none is
-abbrev pub size_of : Decoded → ℕ
-size_of (found r) = size r
-size_of broken = 0
+-- the number of bytes of the record that is found
+abbrev pub size_of : Decoded → Option ℕ
+size_of (found r) = Some (size r)
+size_of broken = None
 
 -- of a memory record the address and the length, of a variable record the number and the value
-abbrev pub fields_of : Record → RecordFields
+abbrev pub fields_of : Record → code.Record
 fields_of (memory address bytes) = Memory address (length bytes)
 fields_of (variable number value) = Variable number value
 
 -- a record is found, and this is what is told of it
-abbrev pub Tells : RecordFields → Decoded → Type 0
+abbrev pub Tells : code.Record → Decoded → Type 0
 Tells x (found r) = x ≡ fields_of r
 Tells x broken = ⊥
 
 -- of a trailer the tag and the length of the records
-abbrev pub ending_of : TrailerRead → Ending
-ending_of (trailer tag long) = Closes tag long
-ending_of broken_trailer = NoTrailer
+abbrev pub ending_of : TrailerRead → Option Trailer
+ending_of (trailer tag long) = Some (record { tag = tag; length = long })
+ending_of broken_trailer = None

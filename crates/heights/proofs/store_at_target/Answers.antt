@@ -1,26 +1,23 @@
 use native.Mathlib.Omega.{arith}
-use mathlib.Core.Path.{sym}
-use lib.ListN.{get_or}
-use Rattle.isa.proofs.Promises.{jump_operands}
+use mathlib.Core.Path.{sym, ◌∙◌}
 use Rattle.isa.specs.Walk.{target}
-use Rattle.heights.proofs.Storing.{target_low, target_high, target_jump}
+use Rattle.heights.proofs.Storing.{jump_kind, target_jump, marked_set, no_mark_set}
 use Rattle.heights.proofs.store_at_target.Goals as goal
-
-pub returns-then-row-lt-GOTO : goal.returns-then-row-lt-GOTO
-returns-then-row-lt-GOTO c = target_low _ _ _ _ (omega arith)
-
-pub returns-then-row-gt-IF_GOTO : goal.returns-then-row-gt-IF_GOTO
-returns-then-row-gt-IF_GOTO c = target_high _ _ _ _ (omega arith)
-
-pub operand_at-target-requires : goal.operand_at-target-requires
-operand_at-target-requires c =
-    record { count = sym (jump_operands (get_or c.args.e.now c.args.at 0) (omega arith) (omega arith)); within = c.requires.room.inside }
 
 pub bounds-heights-target : goal.bounds-heights-target
 bounds-heights-target c =
-    omega (arith, c.requires.room.cell _ (target (omega arith) (omega arith) c.operand_at-target.ensures.0))
+    let x = jump_kind c.args.e.now c.args.at c.requires.row (sym c.is_jump.ensures ∙ c.if-is_jump.true) in
+    omega (arith, c.requires.room.cell _ (target x.0 x.1 c.operand_at-target.ensures.0))
 
-pub returns : goal.returns
-returns c =
-    let o = c.operand_at-target.ensures.0 in
-    target_jump _ _ _ _ _ (record { least = omega arith; most = omega arith; place = o }) (omega (arith, c.requires.room.cell _ (target (omega arith) (omega arith) o)))
+pub returns-then-is_jump : goal.returns-then-is_jump
+returns-then-is_jump c =
+    let a = c.args in
+    let p = sym c.is_jump.ensures ∙ c.if-is_jump.true in
+    let x = jump_kind a.e.now a.at c.requires.row p in
+    let t = c.operand_at-target.result in
+    let i = c.requires.room.cell _ (target x.0 x.1 c.operand_at-target.ensures.0) in
+    record {
+      stored = rw (marked_set a.heights.now t a.after)
+          (target_jump a.e.now a.at c.requires.row a.after _ t p c.operand_at-target.ensures.0 (omega (arith, c.requires.room.long, i)));
+      no_mark = no_mark_set a.heights.now c.requires.no_mark.1 t a.after (omega (arith, c.told-heights, i)) c.requires.no_mark.0;
+    }

@@ -1,20 +1,22 @@
-use borrow.Author.Rules.{rules}
-use Rattle.text_buffer.proofs.Promises.{counts, appends_beyond}
+use Rattle.std.proofs.Common.{[], refl, ◌∙◌}
+use Rattle.text_buffer.proofs.Promises.{appends_length, appends_then}
 use Rattle.hexadecimal.proofs.HexWriting.{encoding_start, encoding_byte, encoding_end}
-use native.Mathlib.Omega.{arith}
 use Rattle.hexadecimal.proofs.encode.Goals as goal
 
-pub returns-then-out-at : goal.returns-then-out-at
-returns-then-out-at c = record { count = counts _ _ (omega arith); text = appends_beyond _ _ _ (omega (arith, c.if-out-at.true)) }
+pub loop-byte-init : goal.loop-byte-init
+loop-byte-init c = record { written = encoding_start _ _ _ c.append.ensures.count.0; lent = refl }
 
-pub loop-i-init : goal.loop-i-init
-loop-i-init c = encoding_start _ _ _ (search rules)
+pub loop-byte-preserved : goal.loop-byte-preserved
+loop-byte-preserved c =
+    let b = c.append_byte in
+    let i = c.loop-byte.invariant in
+    record {
+      written = encoding_byte i.written c.loop-byte-test.true _ _ b.ensures.count.0 (appends_length b.ensures.text) b.ensures.text;
+      lent = b.ensures.lent ∙ i.lent;
+    }
 
-pub loop-i-preserved : goal.loop-i-preserved
-loop-i-preserved c = let b = c.append_byte-n in encoding_byte c.loop-i.invariant c.loop-i-test.true b.new.out b.result b.ensures.count.0 b.auto.out b.ensures.text
+pub returns-clause-text : goal.returns-clause-text
+returns-clause-text c = appends_then [] _ c.append.ensures.text (encoding_end c.loop-byte.invariant.written c.loop-byte-test.false)
 
-pub shape_of-out : goal.shape_of-out
-shape_of-out c = c.loop-i.invariant.size
-
-pub returns : goal.returns
-returns c = record { count = counts _ _ c.loop-i.invariant.inside; text = encoding_end c.loop-i.invariant c.loop-i-test.false }
+pub returns-clause-lent : goal.returns-clause-lent
+returns-clause-lent c = c.loop-byte.invariant.lent ∙ c.append.ensures.lent

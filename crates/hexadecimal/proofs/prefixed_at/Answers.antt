@@ -1,30 +1,28 @@
--- `hexadecimal::prefixed_at` meets its contract: each arm is the definition's case. Assumes nothing.
-use mathlib.Core.Bool.{true, false}
-use mathlib.Core.List.{List}
 use mathlib.Core.Path.{refl, sym, ap, ◌∙◌}
-use Prim.Native.Nat.{ℕ}
-use Rattle.encoding.proofs.Promises.{part_lent}
-use Rattle.hexadecimal.specs.Hex.{is_digit_at}
-use Rattle.hexadecimal.proofs.Hexing.{prefixed_by}
+use mathlib.Core.Bool.{Bool}
+use Prim.Native.Nat.{◌+◌}
+use Rattle.std.specs.Prelude.{Ok}
+use Rattle.std.proofs.lemmas.Result.{err_from_is_err_and}
+use Rattle.hexadecimal.specs.Told.{digit_found}
+use Rattle.hexadecimal.proofs.Hexing.{prefixing, prefixed_by}
 use Rattle.hexadecimal.proofs.prefixed_at.Goals as goal
 
-pub returns-then-is_digit_at : goal.returns-then-is_digit_at
-returns-then-is_digit_at c =
+pub returns-in_err-byte : goal.returns-in_err-byte
+returns-in_err-byte c =
     let a = c.args in
-    let e = c.is_digit_at.ensures ∙ ap (λ (l : List ℕ). is_digit_at l 4) (part_lent a.text.now a.at) in
-    prefixed_by _ _ _ c.in-Byte.ensures true (sym c.if-is_digit_at.true ∙ e)
+    let p = err_from_is_err_and c.from_residual.result c.from_residual.ensures.1 in
+    rw (p.1, p.2) (prefixed_by a.text.now a.at _ (digit_found a.text.now (a.at + 4)) (sym c.in_err-byte.was ∙ c.digits_at.ensures) refl)
 
-pub returns-in-Skip : goal.returns-in-Skip
-returns-in-Skip c = let a = c.args in prefixed_by a.text.now a.at _ c.in-Skip.ensures _ refl
-
-pub returns-in-Wrong : goal.returns-in-Wrong
-returns-in-Wrong c = let a = c.args in prefixed_by a.text.now a.at _ c.in-Wrong.ensures _ refl
-
-pub returns-in-Single : goal.returns-in-Single
-returns-in-Single c = let a = c.args in prefixed_by a.text.now a.at _ c.in-Single.ensures _ refl
-
-pub returns-else-is_digit_at : goal.returns-else-is_digit_at
-returns-else-is_digit_at c =
+pub returns-then-is_ok : goal.returns-then-is_ok
+returns-then-is_ok c =
     let a = c.args in
-    let e = c.is_digit_at.ensures ∙ ap (λ (l : List ℕ). is_digit_at l 4) (part_lent a.text.now a.at) in
-    prefixed_by _ _ _ c.in-Byte.ensures false (sym c.if-is_digit_at.false ∙ e)
+    let x = c.in_ok-byte.byte in
+    ap (λ (t : Bool). prefixing a.at (Ok x) t) (sym c.if-is_ok.true ∙ c.is_ok.ensures.value)
+    ∙ prefixed_by a.text.now a.at _ _ (sym c.in_ok-byte.was ∙ c.digits_at.ensures) c.digit_at.ensures
+
+pub returns : goal.returns
+returns c =
+    let a = c.args in
+    let x = c.in_ok-byte.byte in
+    ap (λ (t : Bool). prefixing a.at (Ok x) t) (sym c.if-is_ok.false ∙ c.is_ok.ensures.value)
+    ∙ prefixed_by a.text.now a.at _ _ (sym c.in_ok-byte.was ∙ c.digits_at.ensures) c.digit_at.ensures

@@ -1,15 +1,15 @@
-use mathlib.Core.Path.{ap}
+use mathlib.Core.Path.{ap, ◌∙◌}
 use Rattle.lilivrez_verifier.specs.VerdictNumbers.{verdict_number, verdict_values}
 use Rattle.lilivrez_verifier.proofs.lilivrez_verify.Goals as goal
 
-pub returns-in-Refused : goal.returns-in-Refused
+pub returns-in-Err : goal.returns-in-Err
 unfolding verdict_number verdict_values
-returns-in-Refused c =
-    let q = c.in-Refused.ensures in
-    record { number = ap verdict_number q; values = ap verdict_values q }
+returns-in-Err c =
+    let q = c.in-Err.ensures in
+    record { number = c.from.ensures ∙ c.number.ensures ∙ ap verdict_number q; values = ap verdict_values q }
 
-pub returns-in-Accepted : goal.returns-in-Accepted
+pub returns-in-Ok : goal.returns-in-Ok
 unfolding verdict_number verdict_values
-returns-in-Accepted c =
-    let q = c.in-Accepted.ensures in
-    record { number = ap verdict_number q; values = ap verdict_values q }
+returns-in-Ok c =
+    let q = c.in-Ok.ensures in
+    record { number = ap verdict_number q; values = rw c.from-height.ensures (ap verdict_values q) }

@@ -1,9 +1,6 @@
-use Rattle.std.proofs.Common.{◌-◌}
+use Rattle.std.proofs.Common.{◌*◌}
 use Rattle.memory.specs.Joining.Searching.{Passed}
 use Rattle.memory.proofs.before_zero.Given as goal
 
-abbrev pub invariant-loop-passed : goal.invariant-loop-passed
-invariant-loop-passed l = Passed l.bytes l.limit l.passed
-
-abbrev pub decreases-loop-passed : goal.decreases-loop-passed
-decreases-loop-passed l = l.limit - l.passed
+abbrev pub invariant-loop-block : goal.invariant-loop-block
+invariant-loop-block l = Passed l.bytes (8 * l.block)

@@ -10,7 +10,7 @@ use Rattle.operations.proofs.do_pick.Goals as goal
 
 pub returns : goal.returns
 returns c =
-    let a = c.args in
-    let n = operand a.code.now a.at in
-    did_cells refl c.replace-after.ensures.2 c.requires refl refl (next_here c.requires c.next_of-next.ensures)
-    (cc (take-append-drop (n + 1) (held a.cells.now a.height), add_comm 1 n))
+    let p = c.args.place in
+    let n = operand c.args.fixed.code.now p.at in
+    did_cells c.replace.ensures.2 refl c.requires refl (next_here c.requires c.next_of.ensures)
+    (cc (take-append-drop (n + 1) (held c.args.cells.now p.height), add_comm 1 n))

@@ -1,23 +1,15 @@
 use mathlib.Core.Path.{refl}
-use Rattle.operations.proofs.Placing.{next_here, needed_here}
-use Rattle.operations.proofs.Doing.{did_cells}
-use borrow.Author.Rules.{rules}
+use native.Mathlib.Omega.{arith}
+use Rattle.operations.proofs.Doing.{did_cells, word_height, word_stack, word_next}
 use Rattle.operations.proofs.do_rot.Goals as goal
 
-pub replace-first-requires : goal.replace-first-requires
-replace-first-requires c =
-    let m = needed_here c.requires c.needed_of-needed.ensures in search rules
+pub replace-second-requires-clause-room : goal.replace-second-requires-clause-room
+replace-second-requires-clause-room c = omega (arith, word_height c.requires c.put_word-first.ensures, c.requires.fits.room)
 
-pub replace-second-requires : goal.replace-second-requires
-replace-second-requires c =
-    let m = needed_here c.requires c.needed_of-needed.ensures in search rules
-
-pub replace-after-requires : goal.replace-after-requires
-replace-after-requires c =
-    let m = needed_here c.requires c.needed_of-needed.ensures in search rules
+pub replace-height-requires-clause-room : goal.replace-height-requires-clause-room
+replace-height-requires-clause-room c = omega (arith, word_height c.requires c.put_word-first.ensures, c.requires.fits.room)
 
 pub returns : goal.returns
 returns c =
-    let e = rw (needed_here c.requires c.needed_of-needed.ensures) at c.replace-first.ensures.1 in
-    did_cells refl c.replace-after.ensures.2 c.requires refl refl (next_here c.requires c.next_of-next.ensures)
-    (cc (e, c.replace-second.ensures.1, c.below-a.ensures, c.below-b.ensures, c.below-c.ensures))
+    let r = c.put_word-first.ensures in
+    did_cells c.replace-height.ensures.2 r.put c.requires refl (word_next c.requires r) (cc (word_stack c.requires r))

@@ -1,12 +1,12 @@
-use native.Mathlib.Omega.{arith}
-use Rattle.operations.proofs.Cases.{divisor_some, divisor_low, divisor_high}
+use Rattle.std.proofs.Common.{arith}
+use Rattle.std.proofs.lemmas.Grind.{common_steps}
+use Rattle.machine.specs.Words.{zero_divisor}
 use Rattle.operations.proofs.is_zero_divisor.Goals as goal
 
-pub returns-then-b-ne0 : goal.returns-then-b-ne0
-returns-then-b-ne0 c = divisor_some _ _ (omega arith)
+pub returns-then-opcode-ge-DIV_SIGNED : goal.returns-then-opcode-ge-DIV_SIGNED
+unfolding zero_divisor
+returns-then-opcode-ge-DIV_SIGNED c = grind (arith, common_steps)
 
-pub returns-then-opcode-lt-DIV_SIGNED : goal.returns-then-opcode-lt-DIV_SIGNED
-returns-then-opcode-lt-DIV_SIGNED c = divisor_low _ _ (omega arith) (omega arith)
-
-pub returns : goal.returns
-returns c = divisor_high _ _ (omega arith) (omega arith)
+pub returns-else-opcode-ge-DIV_SIGNED : goal.returns-else-opcode-ge-DIV_SIGNED
+unfolding zero_divisor
+returns-else-opcode-ge-DIV_SIGNED c = grind (arith, common_steps)

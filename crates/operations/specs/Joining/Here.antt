@@ -3,18 +3,16 @@ use Rattle.std.specs.Prelude.{cond, List, ◌≡◌, ℕ, ◌+◌, ◌≤◌, �
 use Rattle.sizes.specs.Sizes.{expression_most, stack_cells}
 use Rattle.isa.specs.Classes.{Class, class_of, row, kind, kind_pick}
 use Rattle.isa.specs.Decode.{operand_bytes, operand, needed}
-use Rattle.isa.specs.Joining.Rows.{table}
 use Rattle.verdict.specs.Acceptance.{Fits, Ready}
 
--- the rows, the expression and the cells that every function is lent
-pub record Lent (rows : List (List ℕ)) (code a : List ℕ) : Type 0 where
-  pub table_is : rows ≡ table
+-- the expression and the cells that every function is lent
+pub record Lent (code a : List ℕ) : Type 0 where
   pub short : length code ≤ expression_most
   pub long : length a ≡ stack_cells
 
 -- and what acceptance says of the instruction at `at`
-pub record StepReady (rows : List (List ℕ)) (code a : List ℕ) (at h : ℕ) : Type 0 where
-  pub lent : Lent rows code a
+pub record StepReady (code a : List ℕ) (at h : ℕ) : Type 0 where
+  pub lent : Lent code a
   pub ready : Ready code at h
 
 -- the N of pick N, by the class
@@ -22,8 +20,8 @@ abbrev pub on_top : Class → List ℕ → ℕ → ℕ
 on_top c code at = cond (eqb (kind c) kind_pick) (operand code at) 0
 
 -- the same where the opcode and its class are known: by the numbers of the class
-pub record Here (rows : List (List ℕ)) (code a : List ℕ) (c : Class) (op at h : ℕ) : Type 0 where
-  pub lent : Lent rows code a
+pub record Here (code a : List ℕ) (c : Class) (op at h : ℕ) : Type 0 where
+  pub lent : Lent code a
   pub class_is : class_of op ≡ c
   pub low : op < 53
   pub found : get_or code at 0 ≡ op

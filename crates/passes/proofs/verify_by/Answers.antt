@@ -1,15 +1,14 @@
-use native.Mathlib.Omega.{arith}
+use mathlib.Core.Path.{sym, ◌∙◌}
+use lib.ListN.{length}
+use borrow.Author.Tests.{eqb-true}
 use Rattle.verdict.proofs.Deciding.{verdict_empty, verdict_long}
 use Rattle.passes.proofs.verify_by.Goals as goal
+use Rattle.passes.proofs.verify_by.Goals.{then-is_empty-via-then-is_empty, then-is_empty-via-else-is_empty+then-e-gt-EXPRESSION_MOST}
 
-pub returns-then-e-eq0 : goal.returns-then-e-eq0
-returns-then-e-eq0 c = rw c.refusal_at.ensures (verdict_empty _ (omega arith))
-
-pub returns-then-e-gt-EXPRESSION_MOST : goal.returns-then-e-gt-EXPRESSION_MOST
-returns-then-e-gt-EXPRESSION_MOST c = rw c.refusal_at-then-e-gt-EXPRESSION_MOST.ensures (verdict_long _ (omega arith))
-
-pub verify_short-requires : goal.verify_short-requires
-verify_short-requires c = (c.requires, omega arith, omega arith)
-
-pub verify_long-requires : goal.verify_long-requires
-verify_long-requires c = (c.requires, omega arith, omega arith)
+pub returns-then-is_empty : goal.returns-then-is_empty
+returns-then-is_empty c =
+    rw c.at.ensures
+    (elim c.then-is_empty.branch [
+      | then-is_empty-via-then-is_empty w ↦ verdict_empty _ (eqb-true (length c.args.e.now) 0 (sym c.is_empty.ensures ∙ w.if-is_empty.true))
+      | then-is_empty-via-else-is_empty+then-e-gt-EXPRESSION_MOST w ↦ verdict_long _ w.if-e-gt-EXPRESSION_MOST.true
+    ])

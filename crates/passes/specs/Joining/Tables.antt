@@ -1,21 +1,20 @@
 -- What the code's tables and answers hold, pass by pass, in terms of the definitions.
-use Rattle.std.specs.Prelude.{Bool, true, false, cond, List, [], ◌∷◌, ◌≡◌, ◌≢◌, ℕ, ◌+◌, ◌*◌, ◌≤◌, ◌<◌, max, get_or, length, set, take, eqb}
+use Rattle.std.specs.Prelude.{Bool, true, false, cond, Result, Ok, Err, List, [], ◌∷◌, ◌≡◌, ◌≢◌, ℕ, ◌+◌, ◌*◌, ◌≤◌, ◌<◌, max, get_or, length, set, take, eqb}
 use Rattle.sizes.specs.Sizes.{expression_most, stack_cells}
-use Rattle.isa.specs.Decode.{jumps, continues, height_after}
+use Rattle.refusals.specs.declared.Reason.{Reason}
+use Rattle.refusals.specs.declared.Refusal as told_by
+use Rattle.refusals.specs.Numbers.{number_of}
+use Rattle.refusals.specs.Refusal.{told}
+use Rattle.isa.specs.Classes.{kind_end}
+use Rattle.isa.specs.Decode.{next, goes_on, jumps, continues, height_after}
 use Rattle.isa.specs.Starts.{starts, starts_from, is_start}
 use Rattle.isa.specs.Walk.{one}
-use Rattle.verdict.specs.Fault.{Fault, none, fault}
-use Rattle.verdict.specs.Pass1.{pass1, Decodes}
-use Rattle.verdict.specs.Pass2.{Aims}
-use Rattle.verdict.specs.Pass3.{unreached, differing, joined, arrive, raise, at_target, longer, fault3, Pass3End, done, stopped, heights_along, pass3}
-use Rattle.passes.specs.declared.pass1.ScanEnd.{ScanEnd}
-use Rattle.passes.specs.declared.pass1.ScanEnd.TheVariants.{Count as ScanEnd-as-Count, Refused as ScanEnd-as-Refused}
-use Rattle.passes.specs.declared.pass2.AimEnd.{AimEnd}
-use Rattle.passes.specs.declared.pass2.AimEnd.TheVariants.{Fine as AimEnd-as-Fine, Refused as AimEnd-as-Refused}
-use Rattle.passes.specs.declared.pass3.MeasureEnd.{MeasureEnd}
-use Rattle.passes.specs.declared.pass3.MeasureEnd.TheVariants.{Fine as MeasureEnd-as-Fine, Refused as MeasureEnd-as-Refused}
+use Rattle.verdict.specs.Fault.{fault}
+use Rattle.verdict.specs.Pass1.{fault1, pass1, Decodes}
+use Rattle.verdict.specs.Pass2.{pass2, Aims}
+use Rattle.verdict.specs.Pass3.{unreached, differing, joined, arrive, raise, at_target, longer, fault3, heights_along, pass3}
 use Rattle.passes.specs.declared.brought.Flow.{Flow}
-use Rattle.passes.specs.declared.pass3.Carry.{Carry}
+use Rattle.passes.specs.declared.pass3.Carry as code
 
 -- ---- pass 1
 -- the table has a mark for each offset: whether it is a start
@@ -43,10 +42,10 @@ pub record Unmarked (e : List ℕ) (m : List Bool) (a : List ℕ) : Type 0 where
   pub jumps_long : length e ≤ 3 * length a + 2
   pub no_mark : (k : ℕ) → get_or m k false ≡ false
 
--- what pass 1 leaves: the number of instructions and of jumps with both tables, or its refusal
-abbrev pub Scanned : List ℕ → ScanEnd → List Bool → List ℕ → Type 0
-Scanned e (ScanEnd-as-Count n j) m a = Decodes e × (n ≡ length (starts e)) × Marked e m × JumpsNoted e a j
-Scanned e (ScanEnd-as-Refused x) m a = pass1 e ≡ fault x
+-- what pass 1 leaves: the number of instructions with both tables, j jumps in the one, or its refusal
+abbrev pub Scanned : List ℕ → Result ℕ told_by.Refusal → List Bool → ℕ → List ℕ → Type 0
+Scanned e (Ok n) m j a = Decodes e × (n ≡ length (starts e)) × Marked e m × JumpsNoted e a j
+Scanned e (Err x) m j a = pass1 e ≡ fault (told x)
 
 -- a start k is noted behind the n jumps before it where b says that it is a jump: m jumps and the table a'
 abbrev pub noted : Bool → ℕ → ℕ → List ℕ → List ℕ
@@ -59,16 +58,18 @@ pub record Notes (b : Bool) (k n : ℕ) (a : List ℕ) (m : ℕ) (a' : List ℕ)
   pub count_is : m ≡ counted b n
   pub table_is : a' ≡ noted b k n a
 
+-- one instruction of pass 1: the offset behind it, where it has no refusal; the start k is marked then, and noted
+-- behind the n jumps before it where it is a jump
+abbrev pub Looked : List ℕ → ℕ → Result ℕ Reason → List Bool → ℕ → List ℕ → List Bool → ℕ → List ℕ → Type 0
+Looked e k (Ok i) m n a m' n' a' = (fault1 e k ≡ 0) × (i ≡ next e k) × (m' ≡ set m k true) × Notes (jumps e k) k n a n' a'
+Looked e k (Err r) m n a m' n' a' = number_of r ≡ fault1 e k
+
 -- ---- pass 2
-unfoldable pub aim_of : Fault → AimEnd
-aim_of none = AimEnd-as-Fine
-aim_of (fault x) = AimEnd-as-Refused x
+abbrev pub Aimed : {A : Type 0} → List ℕ → Result A told_by.Refusal → Type 0
+Aimed e (Ok x) = Aims e
+Aimed e (Err x) = pass2 e ≡ fault (told x)
 
 -- ---- pass 3
-unfoldable pub measure_of : Pass3End → MeasureEnd
-measure_of (done hs ds g l) = MeasureEnd-as-Fine g l
-measure_of (stopped x) = MeasureEnd-as-Refused x
-
 -- the tables with which pass 3 begins
 pub record Unmeasured (e hs ds : List ℕ) : Type 0 where
   pub heights_long : length e ≤ length hs
@@ -115,6 +116,18 @@ pub record ReachedStart (e : List ℕ) (k h d : ℕ) (hs ds : List ℕ) : Type 0
   pub heights_long : length e ≤ length hs
   pub distances_long : length e ≤ length ds
 
+-- what the code carries from a start to the next, with the number of the start's refusal, or 0
+pub record Carry : Type 0 where
+  pub fault : ℕ
+  pub height : ℕ
+  pub distance : ℕ
+  pub greatest : ℕ
+  pub longest : ℕ
+
+abbrev pub carried : Result code.Carry Reason → Carry
+carried (Ok s) = record { fault = 0; height = s.height; distance = s.distance; greatest = s.greatest; longest = s.longest }
+carried (Err r) = record { fault = number_of r; height = 0; distance = 0; greatest = 0; longest = 0 }
+
 -- what an instruction makes of h and d, where it is not refused
 pub record HeightsAfter (e : List ℕ) (k h d g l : ℕ) (r : Carry) : Type 0 where
   pub height_is : r.height ≡ height_after e k h
@@ -137,6 +150,13 @@ pub record FlowsOn (e : List ℕ) (k h d g l : ℕ) (r : Carry) : Type 0 where
   pub distance_is : r.distance ≡ d + 1
   pub greatest_is : r.greatest ≡ max g (height_after e k h)
   pub longest_is : r.longest ≡ longer e k (d + 1) l
+
+-- the same from what the instruction of that kind made: height, distance, greatest height, longest walk
+pub record FlowsFrom (kind h d g l : ℕ) (r : code.Carry) : Type 0 where
+  pub height_is : r.height ≡ cond (goes_on kind) h unreached
+  pub distance_is : r.distance ≡ d
+  pub greatest_is : r.greatest ≡ g
+  pub longest_is : r.longest ≡ cond (eqb kind kind_end) (max l d) l
 
 -- one reached start of pass 3
 pub record ReachedStep (e : List ℕ) (k h d g l : ℕ) (r : Carry) (hs ds hs' ds' : List ℕ) : Type 0 where

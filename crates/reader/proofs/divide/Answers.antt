@@ -1,50 +1,37 @@
-use mathlib.Core.Path.{◌≡◌, ap, ◌∙◌}
+use Rattle.std.proofs.Common.{arith}
 use Rattle.encoding.proofs.Promises.{part_lent}
-use Rattle.frames.specs.Record.{decode}
-use Rattle.frames.specs.Joining.Answers.{size_of}
-use mathlib.Core.List.{List}
-use Prim.Native.Nat.{ℕ, ◌+◌, ◌-◌}
-use native.Mathlib.Omega.{arith}
-use lib.ListN.{length, take, drop}
-use Rattle.reader.proofs.Splitting.{through_begins, through_ends, through_broken, through_fits, through_here, through_other}
+use Rattle.reader.proofs.Splitting.{left_all, left_broken, left_fits, left_here, left_other, left_inside, left_some, left_none}
 use Rattle.reader.proofs.divide.Goals as goal
 use Rattle.reader.proofs.divide.Goals.{then-count-wanted, else-count-wanted}
 
--- the size of the record at `at`: the part that is lent is all the rest
-sized : (l : List ℕ) (at left : ℕ) {size : ℕ}
-    → size ≡ size_of (decode (take (at + left - at) (drop at l)))
-    → at + left ≡ length l
-    → size ≡ size_of (decode (drop at l))
-sized l at left h e = h ∙ ap (λ n. size_of (decode (take (n - at) (drop at l)))) e ∙ ap (λ t. size_of (decode t)) (part_lent l at)
+pub loop-rest-init : goal.loop-rest-init
+loop-rest-init c = record { rest = left_all _ _; noted = omega arith }
 
-pub loop-left-init : goal.loop-left-init
-loop-left-init c = (omega arith, through_begins _ _)
+pub returns-in_default : goal.returns-in_default
+returns-in_default c = rw (left_broken c.loop-rest.invariant.rest (omega arith) c.in_default.ensures) c.at.ensures
 
-pub returns-then-size-eq0 : goal.returns-then-size-eq0
-returns-then-size-eq0 c = through_broken c.loop-left.invariant.1 (omega arith) (sized _ _ _ c.record_size-size.ensures c.loop-left.invariant.0) (omega arith)
+pub slice_bounds-rest-count : goal.slice_bounds-rest-count
+slice_bounds-rest-count c = left_fits c.loop-rest.invariant.rest (omega arith) c.in-Some.ensures
 
-pub overflow_add-at : goal.overflow_add-at
-overflow_add-at c = record { fits = omega (arith, through_fits c.loop-left.invariant.1 (omega arith) (sized _ _ _ c.record_size-size.ensures c.loop-left.invariant.0)) }
+pub slice_bounds-rest-start : goal.slice_bounds-rest-start
+slice_bounds-rest-start c = left_fits c.loop-rest.invariant.rest (omega arith) c.in-Some.ensures
 
-pub overflow_sub-left : goal.overflow_sub-left
-overflow_sub-left c = omega (arith, through_fits c.loop-left.invariant.1 (omega arith) (sized _ _ _ c.record_size-size.ensures c.loop-left.invariant.0))
+pub loop-rest-preserved : goal.loop-rest-preserved
+loop-rest-preserved c =
+    let v = c.loop-rest.invariant in
+    elim c.if-count-wanted.branch [
+      | then-count-wanted p ↦ record {
+        rest = rw p.left-is (left_here v.rest (omega arith) c.in-Some.ensures _ (part_lent c.loop-rest.rest.now c.in-Some.size) p.if-count-wanted.true);
+        noted = rw p.left-is (left_inside v.rest);
+      }
+      | else-count-wanted p ↦ record {
+        rest = rw p.left-is (left_other v.rest (omega arith) c.in-Some.ensures _ (part_lent c.loop-rest.rest.now c.in-Some.size) p.if-count-wanted.false);
+        noted = rw p.left-is v.noted;
+      }
+    ]
 
-pub overflow_add-count : goal.overflow_add-count
-overflow_add-count c = record { fits = omega (arith, c.loop-left.invariant.1.few) }
-
-pub loop-left-smaller : goal.loop-left-smaller
-loop-left-smaller c = omega arith
-
-pub loop-left-preserved : goal.loop-left-preserved
-loop-left-preserved c =
-    let w = c.loop-left.invariant.1 in
-    let h = sized _ _ _ c.record_size-size.ensures c.loop-left.invariant.0 in (
-      omega (arith, through_fits w (omega arith) h),
-      elim c.if-count-wanted.branch [
-        | then-count-wanted p ↦ through_here w (omega arith) h (omega arith) p.if-count-wanted.true p.found-is
-        | else-count-wanted p ↦ through_other w (omega arith) h (omega arith) p.if-count-wanted.false p.found-is
-      ],
-    )
+pub returns-then-wanted-count : goal.returns-then-wanted-count
+returns-then-wanted-count c = left_some c.loop-rest.invariant.rest (omega arith) c.args.start c.if-wanted-count.true
 
 pub returns : goal.returns
-returns c = through_ends c.loop-left.invariant.1 (omega arith)
+returns c = left_none c.loop-rest.invariant.rest (omega arith) c.args.start c.if-wanted-count.false

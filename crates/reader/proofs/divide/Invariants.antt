@@ -1,11 +1,9 @@
-use mathlib.Core.Path.{◌≡◌}
-use Prim.Native.Nat.{◌+◌}
-use lib.ListN.{length}
-use Rattle.reader.proofs.Splitting.{Through}
+use Rattle.std.proofs.Common.{◌≤◌, length}
+use Rattle.reader.proofs.Splitting.{Left}
 use Rattle.reader.proofs.divide.Given as goal
 
-abbrev pub invariant-loop-left : goal.invariant-loop-left
-invariant-loop-left l = (l.at + l.left ≡ length l.bytes) × Through l.bytes l.wanted l.at l.count l.found
+abbrev pub invariant-loop-rest : goal.invariant-loop-rest
+invariant-loop-rest l = record { rest : Left l.bytes l.rest l.wanted l.count l.left; noted : l.left ≤ length l.bytes }
 
-abbrev pub decreases-loop-left : goal.decreases-loop-left
-decreases-loop-left l = l.left
+abbrev pub decreases-loop-rest : goal.decreases-loop-rest
+decreases-loop-rest l = length l.rest

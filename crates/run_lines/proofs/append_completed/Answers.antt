@@ -1,3 +1,4 @@
+use Rattle.std.proofs.Common.{rules}
 use mathlib.Core.Path.{sym, ◌∙◌}
 use Rattle.text_buffer.proofs.Promises.{appends_same}
 use Rattle.runner.specs.Returned.{answer_of}
@@ -11,6 +12,7 @@ returns-then-is_narrow c =
       count = c.append_completed_by.ensures.count;
       text = appends_same _ _ (completed_one (answer_of a.value) a.steps (sym c.is_narrow.ensures ∙ c.if-is_narrow.true))
           c.append_completed_by.ensures.text;
+      lent = search rules;
     }
 
 pub returns : goal.returns
@@ -20,4 +22,5 @@ returns c =
       count = c.append_completed_by-2.ensures.count;
       text = appends_same _ _ (completed_two (answer_of a.value) a.steps (sym c.is_narrow.ensures ∙ c.if-is_narrow.false))
           c.append_completed_by-2.ensures.text;
+      lent = search rules;
     }

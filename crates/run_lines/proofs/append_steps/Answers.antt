@@ -1,3 +1,4 @@
+use Rattle.std.proofs.Common.{rules}
 use Rattle.text_buffer.proofs.Promises.{one, more}
 use Rattle.text_buffer.specs.Text.{bytes_of}
 use Rattle.phrases.specs.Numbers.{count_text}
@@ -9,7 +10,8 @@ unfolding steps_text
 returns c =
     let a = c.args in
     record {
-      count = c.append.ensures.count;
-      text = (more (more (one (bytes_of " after ") c.append-a.ensures.text) (count_text a.steps (bytes_of "step")) c.append_count-b.ensures.text)
-          (bytes_of ": ") c.append.ensures.text).text;
+      count = c.append-2.ensures.count;
+      text = (more (more (one (bytes_of " after ") c.append.ensures.text) (count_text a.steps (bytes_of "step")) c.append_count.ensures.text)
+          (bytes_of ": ") c.append-2.ensures.text).text;
+      lent = search rules;
     }

@@ -1,5 +1,7 @@
 use native.Mathlib.Omega.{arith}
-use Rattle.text_buffer.proofs.Promises.{text_of}
+use mathlib.Core.Path.{ap, ◌∙◌}
+use lib.ListN.{length}
+use Rattle.text_buffer.proofs.Promises.{text_of, appends_length}
 use Rattle.runner.specs.Returned.{answer_of}
 use Rattle.text_buffer.specs.Text.{bytes_of}
 use Rattle.run_lines.specs.Outcome.{completed_by, is_narrow}
@@ -10,5 +12,6 @@ pub returns : goal.returns
 unfolding is_narrow
 returns c =
     let a = c.args in
-    let w = c.append_completed_by-n in
-    narrow_by (completed_by (bytes_of ", beneath ") (answer_of a.value) a.steps) w.new.out w.result (text_of w.ensures.text) (omega (arith, w.auto.out))
+    let t = rw c.new-line.ensures.1 at c.append_completed_by.ensures.text in
+    let long = appends_length t ∙ ap (λ b. length b.now) c.new-line.ensures.0 in
+    narrow_by (completed_by (bytes_of ", beneath ") (answer_of a.value) a.steps) _ _ (text_of t) (omega (arith, long))

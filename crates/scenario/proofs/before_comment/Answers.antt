@@ -1,3 +1,4 @@
+use native.Mathlib.Omega.{arith}
 use Rattle.scenario.proofs.Reading.{cutting_start, cutting_stop, cutting_more, cutting_end}
 use Rattle.scenario.proofs.before_comment.Goals as goal
 
@@ -11,4 +12,6 @@ pub loop-n-preserved : goal.loop-n-preserved
 loop-n-preserved c = cutting_more c.loop-n.invariant c.loop-n-test.true _ c.opens_comment.ensures c.if-opens_comment.false _ c.is_blank-is_after_blank.ensures
 
 pub returns : goal.returns
-returns c = cutting_end c.loop-n.invariant c.loop-n-test.false
+returns c =
+    let q = cutting_end c.loop-n.invariant c.loop-n-test.false in
+    (omega (arith, q.0, c.loop-n.auto.n-end, c.loop-n-test.false), omega arith)

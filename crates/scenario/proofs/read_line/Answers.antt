@@ -1,5 +1,4 @@
-use native.Mathlib.Omega.{arith}
-use Prim.Native.Nat.{ℕ, ◌-◌}
+use Prim.Native.Nat.{ℕ}
 use mathlib.Core.Bool.{true}
 use mathlib.Core.Path.{◌≡◌, ap, ◌∙◌}
 use lib.ListN.{take}
@@ -10,6 +9,6 @@ pub returns : goal.returns
 unfolding item_of
 returns c =
     let line = c.args.line.now in
-    let b = c.before_comment-n in
-    let e : b.result - 0 ≡ columns_before_comment true line = omega (arith, b.ensures.0) in
+    let b = c.before_comment in
+    let e : b.result ≡ columns_before_comment true line = b.ensures.0 in
     c.read_item.ensures ∙ ap (λ (n : ℕ). item_in (take n line)) e

@@ -1,12 +1,12 @@
 use mathlib.Core.Path.{◌∙◌}
+use Rattle.std.proofs.lemmas.Result.{err_from_is_err_and}
 use Rattle.scenario.proofs.Reading.{pair_wrong, pair_then}
 use Rattle.scenario.proofs.read_pair.Goals as goal
 
-pub read_value-requires : goal.read_value-requires
-read_value-requires c = c.number_at.ensures.within _ _ c.in-Number.is
+pub returns-in_err-read : goal.returns-in_err-read
+returns-in_err-read c =
+    let p = err_from_is_err_and c.from_residual.result c.from_residual.ensures.1 in
+    rw (p.1, p.2) (pair_wrong _ _ _ _ c.number_at.ensures.number _ c.in_err-read.was _ c.limit.ensures)
 
-pub returns-in-Wrong : goal.returns-in-Wrong
-returns-in-Wrong c = pair_wrong _ _ _ _ c.number_at.ensures.number _ _ c.in-Wrong.is _ c.limit.ensures
-
-pub returns-in-Number : goal.returns-in-Number
-returns-in-Number c = c.read_value.ensures ∙ pair_then _ _ _ _ c.number_at.ensures.number _ _ c.in-Number.is _ c.limit.ensures
+pub returns : goal.returns
+returns c = c.read_value.ensures ∙ pair_then _ _ _ _ c.number_at.ensures.number _ c.in_ok-read.was _ c.limit.ensures

@@ -1,12 +1,12 @@
 use mathlib.Core.Path.{◌∙◌}
+use Rattle.std.proofs.lemmas.Result.{err_from_is_err_and}
 use Rattle.scenario.proofs.Reading.{set_wrong, set_then}
 use Rattle.scenario.proofs.read_value.Goals as goal
 
-pub ends-requires : goal.ends-requires
-ends-requires c = c.number_at.ensures.within _ _ c.in-Number.is
+pub returns-in_err-read : goal.returns-in_err-read
+returns-in_err-read c =
+    let p = err_from_is_err_and c.from_residual.result c.from_residual.ensures.1 in
+    rw (p.1, p.2) (set_wrong _ _ _ _ c.number_at.ensures.number _ c.in_err-read.was _ _)
 
-pub returns-in-Wrong : goal.returns-in-Wrong
-returns-in-Wrong c = set_wrong _ _ _ _ c.number_at.ensures.number _ _ c.in-Wrong.is _ _
-
-pub returns-in-Number : goal.returns-in-Number
-returns-in-Number c = c.ends.ensures ∙ set_then _ _ _ _ c.number_at.ensures.number _ _ c.in-Number.is _ _
+pub returns : goal.returns
+returns c = c.ends.ensures ∙ set_then _ _ _ _ c.number_at.ensures.number _ c.in_ok-read.was _ _

@@ -1,13 +1,13 @@
 use native.Mathlib.Omega.{arith}
 use mathlib.Core.Path.{◌∙◌}
-use Rattle.span_room.proofs.Moving.{moves_none, moves_all}
+use Rattle.span_room.proofs.Moving.{moves_none, moves_copied}
 use Rattle.span_room.proofs.move_to_end.Goals as goal
 
 pub returns-then-bytes-count : goal.returns-then-bytes-count
 returns-then-bytes-count c = moves_none c.args.bytes.now c.args.from c.args.count (omega arith)
 
-pub returns-then-to-from : goal.returns-then-to-from
-returns-then-to-from c = moves_none c.args.bytes.now c.args.from c.args.count (omega arith)
+pub returns-then-from-to : goal.returns-then-from-to
+returns-then-from-to c = c.copy_within.ensures.after ∙ moves_copied c.args.bytes.now c.args.from c.args.count (omega arith)
 
-pub returns : goal.returns
-returns c = c.move_up.ensures ∙ moves_all c.args.bytes.now c.args.from c.args.count (omega arith)
+pub returns-else-from-to : goal.returns-else-from-to
+returns-else-from-to c = moves_none c.args.bytes.now c.args.from c.args.count (omega arith)

@@ -1,3 +1,4 @@
+use Rattle.std.proofs.Common.{rules}
 use Rattle.text_buffer.specs.Text.{bytes_of}
 use Rattle.text_buffer.specs.Decimal.{decimal}
 use Rattle.text_buffer.proofs.Promises.{appends_number, one, more}
@@ -10,6 +11,7 @@ returns c =
     let x = c.args.cell in
     record {
       count = c.append_reading.ensures.count;
-      text = (more (more (one (bytes_of " ") c.append-a.ensures.text) (decimal x) (appends_number x c.append_number-b.ensures.text)) (reading_text x)
+      text = (more (more (one (bytes_of " ") c.append.ensures.text) (decimal x) (appends_number x c.append_number.ensures.text)) (reading_text x)
           c.append_reading.ensures.text).text;
+      lent = search rules;
     }

@@ -1,12 +1,11 @@
-use Prim.Native.Nat.{◌-◌}
-use lib.ListN.{length, drop}
-use Rattle.io.specs.Counts.{IsPrefixLen}
+use mathlib.Core.Path.{◌≡◌}
+use lib.ListN.{drop}
 use Rattle.text_buffer.proofs.Promises.{Going}
 use Rattle.step_lines.specs.Step.{cells_text}
 use Rattle.step_lines.proofs.append_cells.Given as goal
 
-abbrev pub invariant-loop-i : goal.invariant-loop-i
-invariant-loop-i l = Going l.initial.out l.at (cells_text l.cells) (cells_text (drop l.i l.cells)) l.out l.n × IsPrefixLen l.n l.out
-
-abbrev pub decreases-loop-i : goal.decreases-loop-i
-decreases-loop-i l = length l.cells - l.i
+abbrev pub invariant-loop-cell : goal.invariant-loop-cell
+invariant-loop-cell l = record {
+  going : Going l.initial.text.bytes.now l.initial.text.end (cells_text l.cells) (cells_text (drop l.cell-index l.cells)) l.text.bytes.now l.text.end;
+  lent : l.text.bytes.ghost_name ≡ l.initial.text.bytes.ghost_name;
+}

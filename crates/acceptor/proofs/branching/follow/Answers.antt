@@ -1,24 +1,10 @@
-use borrow.Author.Rules.{rules}
-use Rattle.acceptor.proofs.AlongJumps.{branching_start, not_concluded}
-use mathlib.Core.Path.{refl}
 use native.Mathlib.Omega.{arith}
+use Rattle.passes.proofs.Promises.{unmeasured_new}
+use Rattle.acceptor.proofs.AlongJumps.{branching_start}
 use Rattle.acceptor.proofs.branching.follow.Goals as goal
 
-pub loop-at-init : goal.loop-at-init
-loop-at-init c = ((λ _. branching_start c.requires.0 c.requires.1 c.requires.2), refl, refl, refl)
+pub loop-s-init : goal.loop-s-init
+loop-s-init g c _ = branching_start c.requires.0 (unmeasured_new _ g.row.N c.requires.1)
 
-pub at_start-s-requires : goal.at_start-s-requires
-at_start-s-requires c = c.loop-at.invariant.0 (search rules)
-
-pub returns-then-s-ne-ON : goal.returns-then-s-ne-ON
-returns-then-s-ne-ON c = c.at_start-s.ensures.concluded
-
-pub loop-at-smaller : goal.loop-at-smaller
-loop-at-smaller c =
-    let w = c.at_start-s.ensures.later (omega arith) in omega (arith, w, c.loop-at.invariant.1)
-
-pub loop-at-preserved : goal.loop-at-preserved
-loop-at-preserved c = ((λ i. c.at_start-s.ensures.on (omega arith) i), refl, search rules, search rules)
-
-pub returns : goal.returns
-returns c = not_concluded (omega (arith, c.in_doubt.ensures))
+pub at_start-requires : goal.at_start-requires
+at_start-requires g c = (omega arith, c.loop-s.invariant c.loop-s-test.true)

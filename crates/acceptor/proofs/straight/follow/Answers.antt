@@ -1,38 +1,17 @@
-use native.Mathlib.Omega.{arith}
-use mathlib.Core.Logic.{inl, inr}
-use Rattle.acceptor.proofs.AlongStraight.{following_start, following_on, goes_on, followed_stop, followed_doubt}
-use Rattle.acceptor.proofs.straight.follow.Goals.{then-effect-ne-ON+else-effect-ne-SETS, else-effect-ne-ON}
+use mathlib.Core.Path.{sym}
+use Rattle.logic.proofs.Promises.{no_true}
+use Rattle.acceptor.proofs.AlongStraight.{looping_start, looping_on}
 use Rattle.acceptor.proofs.straight.follow.Goals as goal
 
-pub loop-at-init : goal.loop-at-init
-loop-at-init c = ((λ i. following_start _ i c.requires), omega arith, omega arith, omega arith, omega arith)
+pub loop-s-init : goal.loop-s-init
+loop-s-init c = looping_start _ c.requires
 
-pub returns-then-effect-ne-SETS : goal.returns-then-effect-ne-SETS
-returns-then-effect-ne-SETS c =
-    followed_stop (c.loop-at.invariant.0 (omega arith)) (omega arith) c.effect_at-effect.ensures
+pub loop-s-preserved-in-On : goal.loop-s-preserved-in-On
+loop-s-preserved-in-On c =
+    let w = rw c.in-On.is at c.in_ok-onward.ensures in
+    rw c.behind-s.ensures (looping_on c.loop-s.invariant c.loop-s-test.true w.0 (λ z. (z, w.1)))
 
-pub loop-at-smaller : goal.loop-at-smaller
-loop-at-smaller c =
-    let w = (goes_on {x = c.loop-at.sets} {y = c.if-effect-ne-ON.sets} c.effect_at-effect.ensures (
-    elim c.if-effect-ne-ON.branch [
-      | then-effect-ne-ON+else-effect-ne-SETS w ↦ inl (omega arith, w.sets-is)
-      | else-effect-ne-ON w ↦ inr (omega arith, w.sets-is)
-    ])).0 in
-    omega (arith, w.at_is)
-
-pub loop-at-preserved : goal.loop-at-preserved
-loop-at-preserved c =
-    let w = goes_on {x = c.loop-at.sets} {y = c.if-effect-ne-ON.sets} c.effect_at-effect.ensures (
-    elim c.if-effect-ne-ON.branch [
-      | then-effect-ne-ON+else-effect-ne-SETS w ↦ inl (omega arith, w.sets-is)
-      | else-effect-ne-ON w ↦ inr (omega arith, w.sets-is)
-    ]) in (
-      (λ i. following_on (c.loop-at.invariant.0 (omega arith)) w.0 i w.1),
-      omega (arith, w.0.at_is),
-      omega (arith, w.0.at_is, w.0.low),
-      omega (arith, w.0.height_is, w.0.greatest_is),
-      omega (arith, w.0.near),
-    )
-
-pub returns : goal.returns
-returns c = followed_doubt (omega arith)
+pub loop-s-preserved : goal.loop-s-preserved
+loop-s-preserved c =
+    let w = rw c.in-Sets.is at c.in_ok-onward.ensures in
+    rw c.behind-s-in-Sets.ensures (looping_on c.loop-s.invariant c.loop-s-test.true w (λ z. no_true (sym z)))

@@ -1,11 +1,10 @@
-use Prim.Native.Nat.{◌+◌, ◌-◌, ◌≤◌, ◌<◌}
+use Prim.Native.Nat.{◌-◌}
 use lib.ListN.{length}
-use Rattle.acceptor.specs.Joining.StraightCode.{Following}
+use Rattle.acceptor.proofs.AlongStraight.{Looping}
 use Rattle.acceptor.proofs.straight.follow.Given as goal
 
-abbrev pub invariant-loop-at : goal.invariant-loop-at
-invariant-loop-at l =
-    (l.at < length l.e → Following l.e l.at l.height l.count l.greatest l.sets) × (l.count ≤ l.at) × (l.height ≤ l.at) × (l.height ≤ l.greatest) × (l.at ≤ length l.e + 8)
+abbrev pub invariant-loop-s : goal.invariant-loop-s
+invariant-loop-s l = Looping l.e l.s
 
-abbrev pub decreases-loop-at : goal.decreases-loop-at
-decreases-loop-at l = length l.e - l.at
+abbrev pub decreases-loop-s : goal.decreases-loop-s
+decreases-loop-s l = length l.e - l.s.at

@@ -1,8 +1,5 @@
 use Rattle.std.proofs.Common.{◌-◌}
 use Rattle.command_frames.proofs.gdb.count_last.Given as goal
 
-abbrev pub invariant-loop-place : goal.invariant-loop-place
-invariant-loop-place l = Unit {0}
-
 abbrev pub decreases-loop-place : goal.decreases-loop-place
-decreases-loop-place l = l.end - l.place
+decreases-loop-place l = l.part.end - l.place

@@ -1,26 +1,27 @@
-use Rattle.std.proofs.Common.{[], ◌+◌, ◌∷◌, drop, arith, rules}
-use Rattle.text_buffer.proofs.Promises.{appends_beyond, going_start, going_part, going_end}
+use Rattle.std.proofs.Common.{refl, ◌∙◌}
+use Rattle.std.proofs.Common.{[], ◌+◌, ◌∷◌, drop, arith}
+use Rattle.text_buffer.proofs.Promises.{appends_length, appends_then, going_start, going_part, going_end}
 use Rattle.frame_lines.specs.Dump.{shown}
 use Rattle.frame_lines.proofs.Dumping.{shown_part, shown_end}
 use Rattle.frame_lines.proofs.dump.append_shown.Goals as goal
 
-pub returns-then-out-at : goal.returns-then-out-at
-returns-then-out-at c = appends_beyond _ _ _ (omega (arith, c.if-out-at.true))
+pub loop-byte-init : goal.loop-byte-init
+loop-byte-init c = record { going = going_start _ _ _ c.append.ensures.count.0; lent = refl }
 
-pub loop-i-init : goal.loop-i-init
-loop-i-init c = going_start _ _ _ (search rules)
-
-pub loop-i-preserved : goal.loop-i-preserved
-loop-i-preserved c =
-    let a = c.append-n in
+pub loop-byte-preserved : goal.loop-byte-preserved
+loop-byte-preserved c =
+    let a = c.append-in-loop-byte in
     let l = c.args.bytes.now in
-    let i = c.loop-i.i in
+    let i = c.loop-byte.byte-index in
     let s = c.shown_byte in
-    going_part c.loop-i.invariant (s.result ∷ []) (shown (drop (i + 1) l)) (shown_part l i c.loop-i-test.true _ s.ensures)
-    a.new.out a.result a.auto.out a.ensures.text
+    record {
+      going = going_part c.loop-byte.invariant.going (s.result ∷ []) (shown (drop (i + 1) l)) (shown_part l i (omega arith) _ s.ensures) _ _
+          (appends_length a.ensures.text) a.ensures.text;
+      lent = a.ensures.lent ∙ c.loop-byte.invariant.lent;
+    }
 
-pub shape_of-out : goal.shape_of-out
-shape_of-out c = c.loop-i.invariant.size
+pub returns-clause-text : goal.returns-clause-text
+returns-clause-text c = appends_then [] _ c.append.ensures.text (going_end c.loop-byte.invariant.going (shown_end c.args.bytes.now c.loop-byte.byte-index (omega arith)))
 
-pub returns : goal.returns
-returns c = going_end c.loop-i.invariant (shown_end _ _ c.loop-i-test.false)
+pub returns-clause-lent : goal.returns-clause-lent
+returns-clause-lent c = c.loop-byte.invariant.lent ∙ c.append.ensures.lent

@@ -1,3 +1,4 @@
+use Rattle.std.proofs.Common.{rules}
 use Rattle.text_buffer.proofs.Promises.{appends_same, one, more, appends_number}
 use Rattle.text_buffer.specs.Text.{bytes_of}
 use Rattle.text_buffer.specs.Decimal.{decimal}
@@ -10,10 +11,11 @@ returns-then-refused-eq0 c =
     let a = c.args in
     let w = a.word.now in
     record {
-      count = c.append.ensures.count;
+      count = c.append-then-refused-eq0.ensures.count;
       text = appends_same _ _ (completed_all a.number w a.refused c.if-refused-eq0.true)
-          (more (more (one (bytes_of "completed: ") c.append-a.ensures.text) (count_text a.number w) c.append_count-b.ensures.text) (bytes_of "\n")
-          c.append.ensures.text).text;
+          (more (more (one (bytes_of "completed: ") c.append.ensures.text) (count_text a.number w) c.append_count.ensures.text) (bytes_of "\n")
+          c.append-then-refused-eq0.ensures.text).text;
+      lent = search rules;
     }
 
 pub returns : goal.returns
@@ -21,9 +23,10 @@ returns c =
     let a = c.args in
     let w = a.word.now in
     record {
-      count = c.append-2.ensures.count;
+      count = c.append-3.ensures.count;
       text = appends_same _ _ (completed_some a.number w a.refused c.if-refused-eq0.false)
-          (more (more (more (more (one (bytes_of "completed: ") c.append-a.ensures.text) (count_text a.number w) c.append_count-b.ensures.text)
-          (bytes_of ", ") c.append-c.ensures.text) (decimal a.refused) (appends_number a.refused c.append_number-d.ensures.text))
-          (bytes_of " of them refused\n") c.append-2.ensures.text).text;
+          (more (more (more (more (one (bytes_of "completed: ") c.append.ensures.text) (count_text a.number w) c.append_count.ensures.text)
+          (bytes_of ", ") c.append-2.ensures.text) (decimal a.refused) (appends_number a.refused c.append_number.ensures.text))
+          (bytes_of " of them refused\n") c.append-3.ensures.text).text;
+      lent = search rules;
     }

@@ -1,3 +1,5 @@
+use Rattle.std.proofs.Common.{rules}
+use Rattle.refusals.specs.Refusal.{told}
 use Rattle.text_buffer.proofs.Promises.{one, more, appends_number}
 use Rattle.text_buffer.specs.Text.{bytes_of}
 use Rattle.text_buffer.specs.Decimal.{decimal}
@@ -9,8 +11,9 @@ unfolding no_frame_text
 returns c =
     let a = c.args in
     record {
-      count = c.append.ensures.count;
-      text = (more (more (more (one (frame_refused_text a.refusal) c.append_refused-a.ensures.text) (bytes_of "\n  asked: frame ")
-          c.append-b.ensures.text) (decimal a.number) (appends_number a.number c.append_number-c.ensures.text)) (bytes_of "\n")
-          c.append.ensures.text).text;
+      count = c.append-2.ensures.count;
+      text = (more (more (more (one (frame_refused_text (told a.refusal)) c.append_refused.ensures.text) (bytes_of "\n  asked: frame ")
+          c.append.ensures.text) (decimal a.number) (appends_number a.number c.append_number.ensures.text)) (bytes_of "\n")
+          c.append-2.ensures.text).text;
+      lent = search rules;
     }

@@ -1,3 +1,4 @@
+use Rattle.std.proofs.Common.{rules}
 use Rattle.text_buffer.proofs.Promises.{one, more, appends_number}
 use Rattle.text_buffer.specs.Text.{bytes_of}
 use Rattle.text_buffer.specs.Decimal.{decimal}
@@ -10,9 +11,10 @@ unfolding variable_record_text
 returns c =
     let a = c.args in
     record {
-      count = c.append.ensures.count;
-      text = (more (more (more (more (more (more (one (bytes_of "  record ") c.append-a.ensures.text) (decimal a.index)
-          (appends_number a.index c.append_number-b.ensures.text)) (bytes_of ": variable ") c.append-c.ensures.text) (decimal a.variable)
-          (appends_number a.variable c.append_number-d.ensures.text)) (bytes_of " = ") c.append-e.ensures.text) (value_text a.value)
-          c.append_value-f.ensures.text) (bytes_of "\n") c.append.ensures.text).text;
+      count = c.append-4.ensures.count;
+      text = (more (more (more (more (more (more (one (bytes_of "  record ") c.append.ensures.text) (decimal a.index)
+          (appends_number a.index c.append_number.ensures.text)) (bytes_of ": variable ") c.append-2.ensures.text) (decimal a.variable)
+          (appends_number a.variable c.append_number-2.ensures.text)) (bytes_of " = ") c.append-3.ensures.text) (value_text a.value)
+          c.append_value.ensures.text) (bytes_of "\n") c.append-4.ensures.text).text;
+      lent = search rules;
     }

@@ -1,4 +1,4 @@
-use mathlib.Core.Path.{refl}
+use mathlib.Core.Path.{refl, ◌∙◌}
 use lib.ListN.{get_or}
 use Rattle.text_buffer.proofs.Promises.{appends_same, one, more}
 use Rattle.instruction_text.specs.Names.{name_of}
@@ -10,14 +10,14 @@ pub bounds-code-offset : goal.bounds-code-offset
 bounds-code-offset c = (instructed _ _ c.requires).inside
 
 pub operand_at-operand-requires : goal.operand_at-operand-requires
-operand_at-operand-requires c = record { count = c.look_up-count.ensures.operands_is; within = (instructed _ _ c.requires).whole }
+operand_at-operand-requires c = record { count = c.from-count.ensures ∙ c.look_up.ensures.operands_is; within = (instructed _ _ c.requires).whole }
 
-pub returns : goal.returns
-returns c =
+pub returns-clause-text : goal.returns-clause-text
+returns-clause-text c =
     let a = c.args in
     let e = a.code.now in
     let k = a.offset in
-    let u = c.look_up-count in
+    let n = c.from-count in
     let v = c.operand_at-operand in
-    appends_same _ _ (named_parts e k (get_or e k 0) u.result.operands v.result refl u.ensures.operands_is v.ensures.0)
-    (more (one (name_of (get_or e k 0)) c.append_name-a.ensures) (operand_text u.result.operands v.result) c.append_operand.ensures).text
+    appends_same _ _ (named_parts e k (get_or e k 0) n.result v.result refl (n.ensures ∙ c.look_up.ensures.operands_is) v.ensures.0)
+    (more (one (name_of (get_or e k 0)) c.append_name.ensures.text) (operand_text n.result v.result) c.append_operand.ensures.text).text

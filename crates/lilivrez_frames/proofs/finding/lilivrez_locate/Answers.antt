@@ -1,15 +1,16 @@
-use mathlib.Core.Path.{ap}
+use mathlib.Core.Path.{◌≡◌, ap, ◌∙◌}
 use Rattle.lilivrez_frames.specs.FrameValues.{locate_number, locate_values}
 use Rattle.lilivrez_frames.proofs.finding.lilivrez_locate.Goals as goal
 
-pub returns-in-Refused : goal.returns-in-Refused
+pub returns-in-Err : goal.returns-in-Err
 unfolding locate_number locate_values
-returns-in-Refused c =
-    let q = c.in-Refused.ensures in
-    record { number = ap locate_number q; values = ap locate_values q }
+returns-in-Err c =
+    let q = c.in-Err.ensures in
+    record { number = c.from.ensures ∙ c.number.ensures ∙ ap locate_number q; values = ap locate_values q }
 
-pub returns-in-Frame : goal.returns-in-Frame
+pub returns-in-Ok : goal.returns-in-Ok
 unfolding locate_number locate_values
-returns-in-Frame c =
-    let q = c.in-Frame.ensures in
-    record { number = ap locate_number q; values = ap locate_values q }
+returns-in-Ok c =
+    let q = c.in-Ok.ensures in
+    let tracepoint : c.from-tracepoint.result ≡ c.in-Ok.found.tag.tracepoint = c.from-tracepoint.ensures in
+    record { number = ap locate_number q; values = rw tracepoint (ap locate_values q) }

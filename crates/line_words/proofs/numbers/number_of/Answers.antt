@@ -1,18 +1,12 @@
-use mathlib.Core.Path.{◌∙◌, ap}
-use Rattle.encoding.proofs.Promises.{part_lent}
+use mathlib.Core.Path.{refl, ap, ◌∙◌}
 use Rattle.line_words.specs.Numbers.{number_in}
-use Rattle.line_words.proofs.Numbering.{hexadecimal_long, number_hexadecimal, number_decimal}
-use native.Mathlib.Omega.{arith}
+use Rattle.line_words.proofs.Numbering.{number_hexadecimal, number_decimal}
 use Rattle.line_words.proofs.numbers.number_of.Goals as goal
 
-pub slice_bounds-unsigned-count : goal.slice_bounds-unsigned-count
-slice_bounds-unsigned-count c = omega (arith, hexadecimal_long _ _ c.is_hexadecimal.ensures c.if-is_hexadecimal.true)
+pub returns-in-Some : goal.returns-in-Some
+returns-in-Some c =
+    let h = c.in-Some.ensures.cases in
+    c.unsigned.ensures ∙ ap (number_in 16) h.1 ∙ number_hexadecimal c.args.word.now _ h.0 refl
 
-pub slice_bounds-unsigned-start : goal.slice_bounds-unsigned-start
-slice_bounds-unsigned-start c = omega (arith, hexadecimal_long _ _ c.is_hexadecimal.ensures c.if-is_hexadecimal.true)
-
-pub returns-then-is_hexadecimal : goal.returns-then-is_hexadecimal
-returns-then-is_hexadecimal c = c.unsigned.ensures ∙ ap (number_in 16) (part_lent c.args.word.now 2) ∙ number_hexadecimal _ _ c.is_hexadecimal.ensures c.if-is_hexadecimal.true
-
-pub returns : goal.returns
-returns c = c.unsigned-2.ensures ∙ number_decimal _ _ c.is_hexadecimal.ensures c.if-is_hexadecimal.false
+pub returns-in-None : goal.returns-in-None
+returns-in-None c = c.unsigned-in-None.ensures ∙ number_decimal c.args.word.now _ c.in-None.ensures.cases refl

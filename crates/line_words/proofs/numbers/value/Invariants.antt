@@ -1,11 +1,7 @@
--- The loop's invariant: `value` is the value of the first n digits.
-use Prim.Native.Nat.{◌-◌}
-use lib.ListN.{length}
+-- The loop's invariant: `value` is the value of the digits so far.
+use Rattle.line_words.specs.Numbers.{base_of}
 use Rattle.line_words.proofs.Numbering.{Valuing}
 use Rattle.line_words.proofs.numbers.value.Given as goal
 
-abbrev pub invariant-loop-n : goal.invariant-loop-n
-invariant-loop-n l = Valuing l.base l.text l.value l.n
-
-abbrev pub decreases-loop-n : goal.decreases-loop-n
-decreases-loop-n l = length l.text - l.n
+abbrev pub invariant-loop-c : goal.invariant-loop-c
+invariant-loop-c l = Valuing (base_of l.base) l.word l.value l.c-index

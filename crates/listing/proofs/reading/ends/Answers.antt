@@ -1,3 +1,4 @@
+use mathlib.Core.Path.{◌∙◌}
 use Rattle.listing.proofs.Lining.{ends_here, ends_later}
 use Rattle.listing.proofs.reading.ends.Goals as goal
 
@@ -5,4 +6,4 @@ pub returns-then-start-word : goal.returns-then-start-word
 returns-then-start-word c = ends_here _ _ c.next_word-word.ensures c.if-start-word.true _ _ _
 
 pub returns : goal.returns
-returns c = ends_later _ _ c.next_word-word.ensures c.if-start-word.false _ _ _
+returns c = c.wrong.ensures ∙ ends_later _ _ c.next_word-word.ensures c.if-start-word.false _ _ _

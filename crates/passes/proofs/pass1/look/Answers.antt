@@ -1,8 +1,6 @@
 use native.Mathlib.Omega.{arith}
-use Rattle.verdict.proofs.Deciding.{f_plain}
-use Rattle.passes.proofs.Scanning.{notes_low}
+use Rattle.verdict.proofs.Deciding.{f_short}
 use Rattle.passes.proofs.pass1.look.Goals as goal
 
-pub returns-then-kind-eq-PLAIN : goal.returns-then-kind-eq-PLAIN
-returns-then-kind-eq-PLAIN c =
-    (f_plain _ _ (omega arith) (omega arith) (omega arith) (omega arith), notes_low c.args.kind (omega arith))
+pub returns-then-e-next : goal.returns-then-e-next
+returns-then-e-next g c = f_short _ _ c.requires.start.0 (omega (arith, c.if-e-next.true, c.from.ensures, c.of-row.ensures.operands_is))

@@ -1,45 +1,26 @@
 use native.Mathlib.Omega.{arith}
-use mathlib.Core.Path.{refl}
-use Rattle.verdict.proofs.Deciding.{f_high, f_short}
-use Rattle.passes.proofs.Scanning.{scanning_start, scanning_turn, scanning_fault, scanning_end, note_room}
 use borrow.Author.Rules.{rules}
+use Rattle.refusals.proofs.Promises.{reason_some}
+use Rattle.passes.proofs.Scanning.{scanning_start, scanning_turn, scanning_fault, scanning_end, note_room}
 use Rattle.passes.proofs.pass1.scan.Goals as goal
 
 pub loop-at-init : goal.loop-at-init
-loop-at-init c = (scanning_start _ _ _ c.requires.unmarked, refl, refl)
+loop-at-init g c = rw c.requires.unmarked.1 (scanning_start _ _ _ c.requires.unmarked.0)
 
-pub returns-then-opcode-ge53 : goal.returns-then-opcode-ge53
-returns-then-opcode-ge53 c =
-    rw c.refusal_at.ensures
-    (scanning_fault c.loop-at.invariant.0 2 (search rules) (f_high _ _ (omega arith)) (omega arith))
+pub look-requires : goal.look-requires
+look-requires g c =
+    let s = c.loop-at.invariant in let w = c.loop-at.found.whole in
+    (search rules, ((c.loop-at-test.true, c.requires.size, omega (arith, s.marks_long, w.0)), λ f p q. omega (arith, note_room s f p q, w.1)))
 
-pub returns-then-e-next : goal.returns-then-e-next
-returns-then-e-next c =
-    rw c.refusal_at-then-e-next.ensures
-    (scanning_fault c.loop-at.invariant.0 4 (search rules) (f_short _ _ (search rules) (omega (arith, c.column.ensures))) (omega arith))
-
-pub look-seen-requires : goal.look-seen-requires
-look-seen-requires c =
-    let s = c.loop-at.invariant.0 in record {
-      start = (omega arith, omega (arith, s.few_jumps, s.within), omega (arith, c.column.ensures), c.column-kind.ensures);
-      room = λ p q. note_room s (omega (arith, c.column.ensures)) (omega (arith, c.column-kind.ensures)) (omega (arith, c.column-kind.ensures));
-    }
-
-pub returns-then-seen-ne0 : goal.returns-then-seen-ne0
-returns-then-seen-ne0 c =
-    rw c.refusal_at-then-seen-ne0.ensures (scanning_fault c.loop-at.invariant.0 _ (search rules) c.look-seen.ensures.0 c.if-seen-ne0.true)
-
-pub bounds-marks-at : goal.bounds-marks-at
-bounds-marks-at c =
-    omega (arith, c.loop-at.invariant.0.marks_long)
+pub returns-in-Err : goal.returns-in-Err
+returns-in-Err g c =
+    rw c.at.ensures
+    (scanning_fault c.loop-at.invariant _ c.loop-at-test.true c.in-Err.ensures (λ z. absurd (omega (arith, reason_some c.in-Err.reason, z))))
 
 pub loop-at-preserved : goal.loop-at-preserved
-loop-at-preserved c =
-    let n = c.look-seen.ensures.1 in (
-      rw (c.column.ensures, n.count_is, n.table_is, c.column-kind.ensures) (scanning_turn c.loop-at.invariant.0 (search rules) (omega (arith, c.look-seen.ensures.0))),
-      search rules,
-      search rules,
-    )
+loop-at-preserved g c =
+    let q = c.in-Ok.ensures in
+    rw (q.1, q.2, q.3.count_is, q.3.table_is) (scanning_turn c.loop-at.invariant c.loop-at-test.true q.0)
 
 pub returns : goal.returns
-returns c = scanning_end c.loop-at.invariant.0 (search rules) (search rules)
+returns g c = scanning_end c.loop-at.invariant c.requires.size (search rules)

@@ -1,32 +1,40 @@
 use native.Mathlib.Omega.{arith}
-use mathlib.Core.Path.{refl}
-use Rattle.isa.proofs.Promises.{start_in}
+use mathlib.Core.Path.{◌≡◌, sym, ◌∙◌}
+use Prim.Native.Nat.{◌<◌}
+use lib.ListN.{get_or}
+use lib.Seq.{get_or-take, length-take-le}
+use Rattle.refusals.proofs.Promises.{reason_some}
+use Rattle.verdict.specs.Pass2.{fault2}
 use Rattle.passes.proofs.Aiming.{aiming_start, aiming_turn, aiming_fault, aiming_end, noted_at}
 use Rattle.passes.proofs.pass2.aim.Goals as goal
 
-pub loop-i-init : goal.loop-i-init
-loop-i-init c = aiming_start c.requires.3
+pub loop-jump-init : goal.loop-jump-init
+loop-jump-init g c = aiming_start c.requires.3
 
-pub bounds-jumps-i : goal.bounds-jumps-i
-bounds-jumps-i c = omega (arith, c.requires.3.room)
+pub fault_at-requires : goal.fault_at-requires
+fault_at-requires g c =
+    let p = c.requires in let f = c.args.found.now in let i = c.loop-jump.jump-index in
+    let h : i < f.noted = omega (arith, c.loop-jump-test.true, length-take-le f.noted f.jumps p.3.room) in
+    let q = noted_at p.3 i h in
+    let x : c.from-at.result ≡ get_or f.jumps i 0 = c.from-at.ensures ∙ get_or-take f.noted f.jumps i 0 h in
+    (p.0, p.1, p.2, rw x q.0, rw x q.1)
 
-pub overflow_cast-at : goal.overflow_cast-at
-overflow_cast-at c =
-    let p = c.requires in record { fits = omega (arith, p.0, start_in _ _ (noted_at p.3 _ c.loop-i-test.true).0) }
+pub returns-in-Err : goal.returns-in-Err
+returns-in-Err g c =
+    let room = c.requires.3.room in let f = c.args.found.now in let i = c.loop-jump.jump-index in
+    let h : i < f.noted = omega (arith, c.loop-jump-test.true, length-take-le f.noted f.jumps room) in
+    let x : c.from-at.result ≡ get_or f.jumps i 0 = c.from-at.ensures ∙ get_or-take f.noted f.jumps i 0 h in
+    rw c.at.ensures (aiming_fault room c.loop-jump.invariant h x c.in-Err.ensures (λ z. absurd (omega (arith, reason_some c.in-Err.reason, z))))
 
-pub fault_at-fault-requires : goal.fault_at-fault-requires
-fault_at-fault-requires c =
-    let p = c.requires in let q = noted_at p.3 _ c.loop-i-test.true in (p.0, p.1, p.2, q.0, q.1)
-
-pub returns-then-fault-ne0 : goal.returns-then-fault-ne0
-returns-then-fault-ne0 c =
-    rw c.refusal_at.ensures
-    (aiming_fault c.requires.3.room c.loop-i.invariant c.loop-i-test.true refl c.fault_at-fault.ensures c.if-fault-ne0.true)
-
-pub loop-i-preserved : goal.loop-i-preserved
-loop-i-preserved c =
-    aiming_turn c.requires.3.room c.loop-i.invariant c.loop-i-test.true (omega arith)
+pub loop-jump-preserved : goal.loop-jump-preserved
+loop-jump-preserved g c =
+    let room = c.requires.3.room in let f = c.args.found.now in let i = c.loop-jump.jump-index in
+    let h : i < f.noted = omega (arith, c.loop-jump-test.true, length-take-le f.noted f.jumps room) in
+    let x : c.from-at.result ≡ get_or f.jumps i 0 = c.from-at.ensures ∙ get_or-take f.noted f.jumps i 0 h in
+    let z : 0 ≡ fault2 c.args.e.now c.from-at.result = c.in-Ok.ensures in
+    aiming_turn room c.loop-jump.invariant h (sym (rw x at z))
 
 pub returns : goal.returns
-returns c =
-    aiming_end c.requires.3.room c.loop-i.invariant c.loop-i-test.false
+returns g c =
+    let f = c.args.found.now in let room = c.requires.3.room in
+    aiming_end room c.loop-jump.invariant (omega (arith, c.loop-jump-test.false, length-take-le f.noted f.jumps room))

@@ -4,5 +4,5 @@ use Rattle.encoding.proofs.Promises.{part_lent}
 use Rattle.text_buffer.proofs.Promises.{appends_same}
 use Rattle.phrases.proofs.numbers.append_significant.Goals as goal
 
-pub returns : goal.returns
-returns c = appends_same _ _ (part_lent c.args.figures.now c.zeros-n.result ∙ c.zeros-n.ensures.place) c.append.ensures.text
+pub returns-clause-text : goal.returns-clause-text
+returns-clause-text c = appends_same _ _ (part_lent c.args.figures.now c.zeros-n.result ∙ c.zeros-n.ensures.place) c.append.ensures.text

@@ -1,3 +1,4 @@
+use Rattle.std.proofs.Common.{rules}
 use Rattle.text_buffer.proofs.Promises.{one, more}
 use Rattle.text_buffer.specs.Text.{bytes_of}
 use Rattle.phrases.specs.Numbers.{count_text, hex_text}
@@ -8,6 +9,6 @@ pub returns : goal.returns
 unfolding replaced_text
 returns c =
     let a = c.args in
-    let counted = more (one (note_at a.line a.word.now) c.append_note_at-a.ensures.text) (count_text a.len (bytes_of "byte")) c.append_count-b.ensures.text in
-    let placed = more (more counted (bytes_of " at ") c.append-c.ensures.text) (hex_text a.first) c.append_address-d.ensures.text in
-    record { count = c.append.ensures.count; text = (more placed (bytes_of " replaced\n") c.append.ensures.text).text }
+    let counted = more (one (note_at a.line a.word.now) c.append_note_at.ensures.text) (count_text a.len (bytes_of "byte")) c.append_count.ensures.text in
+    let placed = more (more counted (bytes_of " at ") c.append.ensures.text) (hex_text a.first) c.append_address.ensures.text in
+    record { count = c.append-2.ensures.count; text = (more placed (bytes_of " replaced\n") c.append-2.ensures.text).text; lent = search rules }

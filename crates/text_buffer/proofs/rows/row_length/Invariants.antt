@@ -4,6 +4,3 @@ use Rattle.text_buffer.proofs.rows.row_length.Given as goal
 
 abbrev pub invariant-loop-n : goal.invariant-loop-n
 invariant-loop-n l = Trimming l.row l.n
-
-abbrev pub decreases-loop-n : goal.decreases-loop-n
-decreases-loop-n l = l.n

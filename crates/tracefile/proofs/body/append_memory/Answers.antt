@@ -1,3 +1,4 @@
+use Rattle.std.proofs.Common.{rules}
 use Rattle.std.proofs.Common.{length}
 use Rattle.text_buffer.proofs.Promises.{appends_same, one, more}
 use Rattle.text_buffer.specs.Text.{bytes_of}
@@ -10,8 +11,9 @@ returns c =
     let a = c.args in
     let l = a.bytes.now in
     record {
-      count = c.append.ensures.count;
+      count = c.append-2.ensures.count;
       text = appends_same _ _ (memory_parts a.address l)
-          (more (more (more (one (bytes_of "M") c.append-a.ensures.text) (little_bytes 8 a.address) c.append_little-b.ensures.text)
-          (little_bytes 2 (length l)) c.append_little-c.ensures.text) (l) c.append.ensures.text).text;
+          (more (more (more (one (bytes_of "M") c.append.ensures.text) (little_bytes 8 a.address) c.append_little.ensures.text)
+          (little_bytes 2 (length l)) c.append_little-2.ensures.text) (l) c.append-2.ensures.text).text;
+      lent = search rules;
     }

@@ -1,4 +1,5 @@
-use Rattle.std.proofs.Common.{◌+◌}
+use Rattle.std.proofs.Common.{rules}
+use Rattle.std.proofs.Common.{◌+◌, refl}
 use Rattle.text_buffer.proofs.Promises.{appends_same, one, more}
 use Rattle.text_buffer.specs.Text.{bytes_of}
 use Rattle.hexadecimal.specs.Hex.{hex_of}
@@ -12,9 +13,10 @@ unfolding variable_text
 returns c =
     let a = c.args in
     record {
-      count = c.append.ensures.count;
-      text = (more (more (more (more (one (bytes_of "tsv ") c.append-a.ensures.text) (hex_text (a.number + 1))
-          (appends_same _ _ (next_hex a.number _ c.ranges.number.fits c.wrapping_add_u64-next.ensures.value) c.append_address-b.ensures.text))
-          (bytes_of ":0:0:") c.append-c.ensures.text) (hex_of (name_text a.number)) c.append_name-d.ensures) (bytes_of "\n")
-          c.append.ensures.text).text;
+      count = c.append-3.ensures.count;
+      text = (more (more (more (more (one (bytes_of "tsv ") c.append.ensures.text) (hex_text (a.number + 1))
+          (appends_same _ _ (next_hex a.number _ c.ranges.number.fits refl) c.append_address.ensures.text))
+          (bytes_of ":0:0:") c.append-2.ensures.text) (hex_of (name_text a.number)) c.append_name.ensures.text) (bytes_of "\n")
+          c.append-3.ensures.text).text;
+      lent = search rules;
     }

@@ -1,3 +1,4 @@
+use Rattle.std.proofs.Common.{rules}
 use Rattle.text_buffer.proofs.Promises.{one, more}
 use Rattle.hexadecimal.specs.Hex.{hex_of}
 use Rattle.text_buffer.specs.Text.{bytes_of}
@@ -9,7 +10,8 @@ unfolding bytes_line
 returns c =
     let a = c.args in
     record {
-      count = c.append.ensures.count;
-      text = (more (more (one (bytes_of "bytes ") c.append-a.ensures.text) (hex_of a.bytes.now) c.encode-b.ensures.text) (bytes_of "\n")
-          c.append.ensures.text).text;
+      count = c.append-2.ensures.count;
+      text = (more (more (one (bytes_of "bytes ") c.append.ensures.text) (hex_of a.bytes.now) c.encode.ensures.text) (bytes_of "\n")
+          c.append-2.ensures.text).text;
+      lent = search rules;
     }

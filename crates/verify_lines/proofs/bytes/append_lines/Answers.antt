@@ -1,44 +1,27 @@
-use Prim.Native.Nat.{◌-◌}
-use native.Mathlib.Omega.{arith}
-use lib.ListN.{take, drop}
-use Rattle.text_buffer.proofs.Promises.{going_start, going_part, going_end}
+use Prim.Native.Nat.{ℕ, min}
+use mathlib.Core.Path.{ap, ◌∙◌}
+use lib.ListN.{length}
+use Rattle.std.specs.Slice.Iter.{chunks_rest}
+use Rattle.text_buffer.proofs.Promises.{appends_length, going_part, going_end}
 use Rattle.verify_lines.specs.Bytes.{bytes_line, bytes_text}
 use Rattle.verify_lines.proofs.Lines.{bytes_part, bytes_end}
 use Rattle.verify_lines.proofs.bytes.append_lines.Goals as goal
 
-pub loop-k-init : goal.loop-k-init
-loop-k-init c = (going_start _ _ _ c.requires.0, c.requires, omega arith)
-
-pub line_end-end-requires : goal.line_end-end-requires
-line_end-end-requires c = c.loop-k.invariant.2
-
-pub slice_bounds-append_line-count : goal.slice_bounds-append_line-count
-slice_bounds-append_line-count c = omega (arith, c.line_end-end.ensures)
-
-pub slice_bounds-append_line-start : goal.slice_bounds-append_line-start
-slice_bounds-append_line-start c = omega (arith, c.line_end-end.ensures)
-
-pub slice_bounds-append_line-end : goal.slice_bounds-append_line-end
-slice_bounds-append_line-end c = omega (arith, c.line_end-end.ensures)
-
-pub loop-k-smaller : goal.loop-k-smaller
-loop-k-smaller c = omega (arith, c.line_end-end.ensures)
-
-pub loop-k-preserved : goal.loop-k-preserved
-loop-k-preserved c =
-    let e = c.args.code.now in
-    let k = c.loop-k.k in
-    let end = c.line_end-end.result in
-    let p = c.append_line-n in (
-      going_part c.loop-k.invariant.0 (bytes_line (take (end - k) (drop k e))) (bytes_text (drop end e))
-          (bytes_part e k c.loop-k-test.true end c.line_end-end.ensures) p.new.out p.result p.auto.out p.ensures.text,
+pub loop-line-preserved : goal.loop-line-preserved
+loop-line-preserved c =
+    let s = c.in-Some.ensures.steps in
+    let g = c.loop-line.invariant in
+    let l = chunks_rest c.loop-line.line-iterator in
+    let p = c.append_line in (
+      going_part g.0 (bytes_line c.in-Some.line.now) (bytes_text (chunks_rest c.next.new.self))
+          (bytes_part l c.in-Some.line.now (chunks_rest c.next.new.self) s.1.0 (s.1.1 ∙ ap (λ (k : ℕ). min k (length l)) g.2) s.1.2) _ _ (appends_length p.ensures.text) p.ensures.text,
       p.ensures.count,
-      omega
-          (arith, c.line_end-end.ensures),
+      s.0 ∙ g.2,
+      p.ensures.lent ∙ g.3,
     )
 
-pub shape_of-out : goal.shape_of-out
-shape_of-out c = c.loop-k.invariant.0.size
+pub returns-clause-text : goal.returns-clause-text
+returns-clause-text c = going_end c.loop-line.invariant.0 (bytes_end _ c.in-None.ensures.steps.1.0)
 
-pub returns : goal.returns
-returns c = record { count = c.loop-k.invariant.1; text = going_end c.loop-k.invariant.0 (bytes_end _ _ c.loop-k-test.false) }
+pub returns-clause-lent : goal.returns-clause-lent
+returns-clause-lent c = c.loop-line.invariant.3

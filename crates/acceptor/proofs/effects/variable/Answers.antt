@@ -1,9 +1,0 @@
-use native.Mathlib.Omega.{arith}
-use lib.ListN.{get_or}
-use Rattle.isa.proofs.Promises.{variable_operands}
-use Rattle.acceptor.proofs.effects.variable.Goals as goal
-
-pub operand_at-requires : goal.operand_at-requires
-operand_at-requires c =
-    let o = variable_operands (get_or c.args.e.now c.args.at 0) (omega arith) in
-    record { count = omega (arith, o); within = omega (arith, o) }

@@ -1,2 +1,0 @@
--- The work behind the contracts of `setting`.
-mod Words
