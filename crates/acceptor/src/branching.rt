@@ -17,7 +17,7 @@ use verdict::Accepted;
 // height; the longest walk to an end; how many targets were noted, and how many of them were met as starts; whether a
 // setv came.
 #[derive(Clone, Copy)]
-pub(crate) struct Progress {
+pub struct Progress {
     pub at: usize,
     pub height: usize,
     pub distance: usize,

@@ -7,6 +7,7 @@ ghost use Rattle.std.specs.Prelude.{◌≤◌, ◌<◌, length, IfSome};
 ghost use Rattle.sizes.specs.Sizes.{expression_most};
 ghost use Rattle.acceptor.specs.Joining.StraightCode.{Following, Accepts};
 
+pub use crate::branching::Progress;
 use crate::straight::Straight;
 use verdict::Accepted;
 
@@ -24,7 +25,7 @@ pub struct Acceptance {
 // Where the pass over straight code stands, or has stopped: the offset, the height there, the instructions before it, the
 // greatest height, and whether one of them is a setv.
 #[derive(Clone, Copy)]
-pub(crate) struct Stop {
+pub struct Stop {
     pub at: usize,
     pub height: usize,
     pub count: usize,

@@ -78,7 +78,11 @@ fn shift_copying(a: u64, count: u64) -> u64
 pub fn rsh_signed(a: u64, b: u64) -> u64
     ensures { result ≡ Words.rsh_signed a b }
 {
-    shift_copying(a, b.min(63))
+    if b < 64 {
+        shift_copying(a, b)
+    } else {
+        shift_copying(a, 63)
+    }
 }
 
 pub fn bit_and(a: u64, b: u64) -> u64

@@ -66,6 +66,7 @@ fn reads_register(code: &[u8], register: u64) -> bool
     any_instruction(code, |at| reads_at(code, at, register))
 }
 
+#[tactic(auto, unfolding(crate::specs::Collection::is_set))]
 fn is_set(byte: u8, bit: usize) -> bool
     requires { bit < 8 }
     ensures { result ≡ is_set byte bit }

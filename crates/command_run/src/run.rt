@@ -1,4 +1,6 @@
 // The lines of a scenario, one after the other, up to the first that is wrong.
+ghost use Rattle.std.specs.Prelude.{◌≡◌, length};
+
 use crate::asked::file_place;
 use crate::files_read::{FilesRead, ReadBy};
 use crate::items::Scenario;
@@ -13,7 +15,11 @@ use scenario_setting::start;
 
 // The image and the memory have so many bytes together: a program's arrays lie on its stack, and the manual says how
 // much of it there must be.
-const SPANS_SIZE: usize = 1_572_864;
+fn spans_buffer() -> [u8; 1572864]
+    ensures { 1572864 ≡ length result }
+{
+    zeros()
+}
 
 // The next line could not be read, or is too long.
 fn print_line_error(console: &Console, name: &[u8], number: u64, error: LineError) {
@@ -42,7 +48,7 @@ fn run_lines(console: &Console, input: Input, name: &[u8]) {
     let mut scenario = Scenario {
         setting: start(),
         registers: &mut [0; 257],
-        spans: &mut zeros::<SPANS_SIZE>(),
+        spans: &mut spans_buffer(),
         variables: &mut [0; sizes::VARIABLE_COUNT],
         buffer: &mut io::large_buffer(),
         files_read: &mut files_read,

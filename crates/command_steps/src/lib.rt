@@ -25,24 +25,18 @@ fn print_line(
     }
 }
 
-// Prints where the run stands after so many steps, and answers whether it still stood. Variables and buffer stay as
-// they are: the steps are done on copies.
+// Prints where the run stands after so many steps, and answers whether it still stood. The variables stay as they are:
+// the steps are done on a copy. Of the buffer the steps change bytes past the used length alone, and look at none.
 fn print_step(
     console: &Console,
     inputs: Inputs,
     variables: &[u64; sizes::VARIABLE_COUNT],
-    buffer: &[u8],
+    buffer: &mut [u8],
     step: u64,
 ) -> bool {
-    let size = buffer.len();
-    if sizes::BUFFER_MOST < size {
-        return false;
-    }
-    let mut bytes = [0u8; sizes::BUFFER_MOST];
-    bytes[..size].copy_from_slice(buffer);
     let mut values = *variables;
     let mut cells = [0u64; Stack::DEPTH];
-    match stand(inputs, &mut cells, &mut values, &mut bytes[..size], step) {
+    match stand(inputs, &mut cells, &mut values, buffer, step) {
         None => false,
         Some(stood) => {
             print_line(console, step, inputs.code, stood.at, &cells, stood.height);
@@ -52,7 +46,7 @@ fn print_step(
 }
 
 // Prints a line for each step of the run, the last of them that at which it ends: an end, or a step that is refused. It
-// ends where nobody reads them any more.
+// ends where nobody reads them any more. The buffer stays as it is: all the steps are done on one copy.
 pub fn print_steps(
     console: &Console,
     inputs: Inputs,
@@ -60,8 +54,14 @@ pub fn print_steps(
     buffer: &[u8],
     allowance: u64,
 ) {
+    let size = buffer.len();
+    if sizes::BUFFER_MOST < size {
+        return;
+    }
+    let mut bytes = [0u8; sizes::BUFFER_MOST];
+    bytes[..size].copy_from_slice(buffer);
     for step in 0..allowance {
-        if !print_step(console, inputs, variables, buffer, step) || is_unread(console) {
+        if !print_step(console, inputs, variables, &mut bytes[..size], step) || is_unread(console) {
             return;
         }
     }

@@ -1,8 +1,10 @@
 // The answer to one expression: the verdict in a line, where it is asked for a listing, and notes on what is collected.
+ghost use Rattle.std.specs.Prelude.{◌≡◌, length};
 ghost use Rattle.io.specs.Counts.{IsPrefixLen};
 
 use collection_notes::{Collection, append_nothing, collects};
 use console_output::{Console, print, print_answer};
+use files::zeros;
 use text_buffer::TextBuffer;
 
 // What is asked for beside the verdict: a listing; and whether the expression is meant to collect.
@@ -19,6 +21,13 @@ pub struct Command<'a> {
     pub asked: Asked,
 }
 
+// Room for the longest answer (`answer_length`, on the page of `verify_lines`).
+fn answer_room() -> [u8; 98304]
+    ensures { 98304 ≡ length result }
+{
+    zeros()
+}
+
 // That nothing is collected is said where a collection was asked for, and where GDB wanted a register collected.
 fn append_rest(text: &mut TextBuffer, code: &[u8], is_collecting: bool)
     ensures { IsPrefixLen text.new.end text.new.bytes.now }
@@ -31,10 +40,9 @@ fn append_rest(text: &mut TextBuffer, code: &[u8], is_collecting: bool)
 }
 
 impl Command<'_> {
-    // Whether the expression was accepted. The buffer has room for the longest answer (`answer_length`, on the page of
-    // `verify_lines`).
+    // Whether the expression was accepted.
     fn print_verdict(self, code: &[u8]) -> bool {
-        let mut room = [0u8; 98304];
+        let mut room = answer_room();
         let mut text = TextBuffer::new(&mut room);
         verify_lines::listed::append_answer(&mut text, code, self.asked.is_listed);
         print_answer(self.console, text.written());

@@ -120,18 +120,22 @@ impl Command<'_> {
         }
     }
 
-    // Each part from `at` on, up to the first that cannot be read.
+    // Each part from `at` on, up to the first that cannot be read. The lines before it are counted along.
     fn read_parts(self, text: &[u8], is_named: bool) {
         let mut at = 0;
+        let mut line: usize = 0;
         // A place is counted by hand: it moves by a whole part, whose ends `next_part` answers.
         while at < text.len() {
             let Part { start, end } = next_part(text, at);
             if start == end {
                 return;
             }
-            if !self.read_part(&text[start..end], line_feeds(&text[..start]), is_named) {
+            line = line.wrapping_add(line_feeds(&text[at..start]));
+            let part = &text[start..end];
+            if !self.read_part(part, line, is_named) {
                 return;
             }
+            line = line.wrapping_add(line_feeds(part));
             at = end;
         }
     }
@@ -149,7 +153,7 @@ impl Command<'_> {
     // Its arrays lie in a frame of their own, and in that of no other command.
     #[inline(never)]
     pub fn read_listings(self) {
-        let mut text = files::zeros::<1_048_576>();
+        let mut text = files::mebibyte_buffer();
         if let Some(n) = load(
             self.console,
             &mut text,

@@ -84,6 +84,8 @@ use Rattle.verifier.specs.contracts.verify_noting as verify_noting
 use Rattle.verifier.proofs.verify_noting as verify_noting_proof
 use Rattle.memory.specs.contracts.fetch as fetch
 use Rattle.memory.proofs.fetch as fetch_proof
+use Rattle.memory.specs.contracts.lend as lend
+use Rattle.memory.proofs.lend as lend_proof
 use Rattle.memory.specs.contracts.fetch_refusal as fetch_refusal_of
 use Rattle.memory.proofs.fetch_refusal as fetch_refusal_of_proof
 use Rattle.runner.specs.contracts.run as run
@@ -188,11 +190,15 @@ module _ {M : Type 1} where
       (λ _ (expression, _) r _. (verdict_of r.answer ≡ verdict expression.now) × (r.sets ≡ false → SetsNothing expression.now))
   verify_noting_answers = verify_noting_proof.Met.met
 
-  pub fetch_answers : Lends M fetch.ended fetch_proof.Symbol.name fetch_proof.Symbol.code
+  pub fetch_answers : Answers M fetch.ended fetch_proof.Symbol.name fetch_proof.Symbol.code
+      (λ _ (target, (address, (size, _))) r _. r.now ≡ fetched (target_of target) address size)
+  fetch_answers = fetch_proof.Met.met
+
+  pub lend_answers : Lends M lend.ended lend_proof.Symbol.name lend_proof.Symbol.code
       (λ _ (target, (address, (size, _))) r _. number_or_0 r ≡ fetch_refusal (target_of target) address size)
       (λ _ (target, (address, (size, _))) r _. IfOk r (λ part. part.now ≡ fetched (target_of target) address size))
       (λ _ (target, (address, (size, _))) r _. OnErr r (fetched (target_of target) address size ≡ []))
-  fetch_answers = fetch_proof.Met.met
+  lend_answers = lend_proof.Met.met
 
   pub fetch_refusal_answers : Answers M fetch_refusal_of.ended fetch_refusal_of_proof.Symbol.name fetch_refusal_of_proof.Symbol.code
       (λ _ (target, (address, (size, _))) r _. number_or_0 r ≡ fetch_refusal (target_of target) address size)

@@ -79,8 +79,8 @@ fn put_each(out: &mut [u8], at: usize, bytes: &[u8])
     requires { at + length bytes.now ≤ length out.old }
     ensures { out.new ≡ written_at out.old at bytes.now }
 {
-    for (copied, byte) in bytes.iter().enumerate() {
-        out[at + copied] = *byte;
+    for copied in 0..bytes.len() {
+        out[at + copied] = bytes[copied];
     }
 }
 

@@ -57,6 +57,13 @@ pub fn zeros<const N: usize>() -> [u8; N]
     [0; N]
 }
 
+// Room for a text of at most 1,048,576 characters.
+pub fn mebibyte_buffer() -> [u8; 1048576]
+    ensures { 1048576 ≡ length result }
+{
+    zeros()
+}
+
 // Whether the name stands for standard input or standard output.
 pub fn is_standard(name: &[u8]) -> bool {
     matches!(name, b"-")

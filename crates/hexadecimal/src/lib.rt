@@ -4,9 +4,10 @@
 
 ghost use Rattle.std.specs.Prelude.{◌≡◌, ℕ, ◌+◌, ◌<◌, ◌≤◌, ◌==◌, not, length, drop, take_while, Ok};
 ghost use Rattle.io.specs.Counts.{IsPrefixLen};
+ghost use Rattle.io.specs.Digits.{hex_digit_ascii};
 ghost use Rattle.hexadecimal.specs.Hex.{is_blank, is_separator, is_prefixed, digits_of, prefixed_of, token_of};
 ghost use Rattle.hexadecimal.specs.Hex.{reading_of, written_over, pair_of, hex_of};
-ghost use Rattle.hexadecimal.specs.Told.{digit_told, digit_found, byte_told, token_told, hex_answer_of};
+ghost use Rattle.hexadecimal.specs.Told.{digit_told, first_digit, byte_told, token_told, hex_answer_of};
 ghost use Rattle.text_buffer.specs.Text.{Appends};
 
 use text_buffer::TextBuffer;
@@ -63,11 +64,12 @@ fn line_length(text: &[u8]) -> usize
     text.iter().take_while(|c| **c != b'\n').count()
 }
 
-fn digit_at(text: &[u8], at: usize) -> Result<u8, HexError>
-    ensures { result ≡ digit_found text.now at }
+// The digit at `at`; a character that is none is told at `place`.
+fn digit_at(text: &[u8], at: usize, place: usize) -> Result<u8, HexError>
+    ensures { result ≡ first_digit place (drop at text.now) }
 {
     match text.get(at) {
-        Some(c) => digit(*c).ok_or(HexError::NotHex(at)),
+        Some(c) => digit(*c).ok_or(HexError::NotHex(place)),
         None => Err(HexError::Odd),
     }
 }
@@ -77,8 +79,8 @@ fn digits_at(text: &[u8], at: usize) -> Result<u8, HexError>
     requires { at ≤ length text.now }
     ensures { result ≡ byte_told (digits_of at (drop at text.now)) }
 {
-    let high = digit_at(text, at)?;
-    let low = digit_at(text, at + 1)?;
+    let high = digit_at(text, at, at)?;
+    let low = digit_at(text, at + 1, at + 1)?;
     Ok(high * 16 + low)
 }
 
@@ -94,7 +96,7 @@ fn prefixed_at(text: &[u8], at: usize) -> Result<u8, HexError>
     ensures { result ≡ byte_told (prefixed_of at (drop at text.now)) }
 {
     let byte = digits_at(text, at + 2)?;
-    if digit_at(text, at + 4).is_ok() {
+    if digit_at(text, at + 4, at + 4).is_ok() {
         return Err(HexError::NotHex(at + 4));
     }
     Ok(byte)
@@ -143,15 +145,24 @@ pub fn decode(text: &[u8], out: &mut [u8]) -> Result<usize, HexError>
     Ok(n)
 }
 
+// The character of a digit, in lower case.
+fn character(digit: u8) -> u8
+    requires { digit < 16 }
+    ensures { result ≡ hex_digit_ascii digit }
+{
+    if digit < 10 {
+        return b'0' + digit;
+    }
+    b'a' - 10 + digit
+}
+
 // Appends a byte as two digits.
 pub fn append_byte(text: &mut TextBuffer, byte: u8)
     ensures count { IsPrefixLen text.new.end text.new.bytes.now }
     ensures text { Appends text.old.bytes.now text.old.end (pair_of byte) text.new.bytes.now text.new.end }
     ensures lent { text.new.bytes.ghost_name ≡ text.old.bytes.ghost_name }
 {
-    let mut figures = [0u8; 16];
-    let k = io::hex(u64::from(byte), 2, &mut figures);
-    text.append(&figures[..k]);
+    text.append(&[character(byte / 16), character(byte % 16)]);
 }
 
 // Appends bytes, two digits each and nothing between them. Where there are none, the text still ends within its buffer

@@ -110,6 +110,14 @@ pub operands_most : (op : ℕ) → get_or (row (class_of op)) 0 0 ≤ 8
 unfolding opcodes
 operands_most op = leb→le _ _ (rule (λ c. leb (get_or (row c) 0 0) 8) tt op)
 
+pub needed_most : (op : ℕ) → get_or (row (class_of op)) 1 0 ≤ 3
+unfolding opcodes
+needed_most op = leb→le _ _ (rule (λ c. leb (get_or (row c) 1 0) 3) tt op)
+
+pub left_most : (op : ℕ) → get_or (row (class_of op)) 2 0 ≤ 3
+unfolding opcodes
+left_most op = leb→le _ _ (rule (λ c. leb (get_or (row c) 2 0) 3) tt op)
+
 -- the byte count inside a class, and 0 where it has none
 abbrev inside : Class → ℕ
 inside binary = 0

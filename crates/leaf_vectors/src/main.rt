@@ -38,7 +38,12 @@ fn append_read(text: &mut TextBuffer, call: Call, target: Target)
     let address = call.number(5);
     let read = match call.kind {
         Kind::Rest => memory::spans_refusal(target).map(|memory| memory.rest(address)),
-        _ => memory::fetch(target, address, call.number(6)),
+        _ => {
+            let size = call.number(6);
+            memory::fetch_refusal(target, address, size).map(|_| memory::fetch(
+                target, address, size,
+            ))
+        }
     };
     match read {
         Ok(bytes) => append_bytes(text, bytes),

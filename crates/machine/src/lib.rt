@@ -3,7 +3,8 @@
 #![tactic(auto)]
 
 ghost use Rattle.std.specs.Prelude.{List, ℕ};
-ghost use Rattle.machine.specs.Given.{given_by};
+ghost use Rattle.memory.specs.Spans.{target_of};
+ghost use Rattle.machine.specs.Given.{given};
 ghost use Rattle.machine.specs.Recorded.{Typed};
 
 use isa::Rows;
@@ -30,7 +31,7 @@ pub struct Inputs<'a> {
 
 // The inputs of any run are typed. The compiler removes the call.
 pub fn typed(inputs: Inputs, variables: &[u64; sizes::VARIABLE_COUNT])
-    ensures { (buffer : List ℕ) (allowance : ℕ) → Typed (given_by inputs.entry variables.now buffer allowance) }
+    ensures { (buffer : List ℕ) (used allowance : ℕ) → Typed (given inputs.entry.code.now inputs.entry.registers.now variables.now (target_of inputs.entry.target) inputs.entry.tracepoint buffer used allowance) }
 {
     encoding::bytes_known(inputs.code);
     encoding::words_known(inputs.registers);

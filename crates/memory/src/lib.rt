@@ -136,16 +136,8 @@ impl<'a> Memory<'a> {
     }
 }
 
-// Why `fetch` lends nothing: 12, 13 or 19.
-pub fn fetch_refusal(target: Target, address: u64, size: u64) -> Result<(), Reason>
-    ensures { number_or_0 result ≡ fetch_refusal (target_of target.entry) address size }
-{
-    fetch(target, address, size)?;
-    Ok(())
-}
-
-// The `size` bytes at `address`, in whichever span holds them all.
-pub fn fetch<'a>(target: Target<'a>, address: u64, size: u64) -> Result<&'a [u8], Reason>
+// The `size` bytes at `address`, in whichever span holds them all, or why they are not lent: 12, 13 or 19.
+pub fn lend<'a>(target: Target<'a>, address: u64, size: u64) -> Result<&'a [u8], Reason>
     ensures number { number_or_0 result ≡ fetch_refusal (target_of target.entry) address size }
     ensures part { IfOk result (λ part. part.now ≡ fetched (target_of target.entry) address size) }
     ensures none { OnErr result (fetched (target_of target.entry) address size ≡ []) }
@@ -156,6 +148,24 @@ pub fn fetch<'a>(target: Target<'a>, address: u64, size: u64) -> Result<&'a [u8]
         return Err(Reason::RangeNotReadable);
     }
     Ok(&rest[..size as usize])
+}
+
+// Why `fetch` lends nothing: 12, 13 or 19.
+pub fn fetch_refusal(target: Target, address: u64, size: u64) -> Result<(), Reason>
+    ensures { number_or_0 result ≡ fetch_refusal (target_of target.entry) address size }
+{
+    lend(target, address, size)?;
+    Ok(())
+}
+
+// The `size` bytes at `address`, in whichever span holds them all; an empty part where that is refused.
+pub fn fetch<'a>(target: Target<'a>, address: u64, size: u64) -> &'a [u8]
+    ensures { result.now ≡ fetched (target_of target.entry) address size }
+{
+    match lend(target, address, size) {
+        Ok(part) => part,
+        Err(_) => &target.image.bytes[..0],
+    }
 }
 
 // ---- the search for a zero byte

@@ -12,7 +12,10 @@ use lib.Dec.{leb}
 use borrow.Author.Tests.{eq-eqb, ne_eqb, le-leb, lt-leb}
 use Rattle.logic.proofs.Promises.{cases}
 use Rattle.refusals.specs.Refusal.{refusal}
-use Rattle.isa.specs.Classes.{kind_goto, kind_if_goto, kind_end}
+use Rattle.isa.specs.declared.Kind.{Kind}
+use Rattle.isa.specs.declared.Kind.TheVariants.{Unknown, Unsupported, Ext, Variable, Plain, Pick, Goto, IfGoto, End}
+use Rattle.isa.specs.Joining.Rows.{kind_of}
+use Rattle.isa.specs.Classes.{kind_pick, kind_goto, kind_if_goto, kind_end}
 use Rattle.isa.specs.Decode.{kind_at, next, operand, height_after, jumps, continues}
 use Rattle.isa.specs.Starts.{starts, starts_from}
 use Rattle.isa.specs.Walk.{one}
@@ -23,6 +26,7 @@ use Rattle.verdict.specs.Pass3.{unreached, joined, arrive, raise, at_target, at_
 use Rattle.verdict.specs.Verdict.{accepted, refused, after3}
 use Rattle.passes.specs.Joining.Tables.{Carry, carried, FlowsFrom, Unmeasured, Passing, arrived, farther, Incoming, Halting, Effected, Brings, ReachedStep, Turned, AgreeFrom, Measuring}
 use Rattle.std.specs.Prelude.{Ok}
+use Rattle.std.proofs.Common.{◌⊎◌, inl, inr}
 use Rattle.passes.specs.declared.pass3.Carry as code
 use Rattle.passes.specs.declared.brought.Flow.{Flow}
 use Rattle.verdict.proofs.Deciding.{decodes_fits, decodes_known, aims_target, along_nil, along_skip, along_pass, along_stop, fine, continues_true, joined_first, joined_same, joined_differing, longer_end, longer_other, AtCell, arrives, raises, if_length, if_kept, replicate_at, heights0_length, heights0_zero, heights0_other, distances0_length, distances0_at}
@@ -72,6 +76,17 @@ module _ {e : List ℕ} {k : ℕ} (p : Passing e k) where
   pub passing_target : kind_goto ≤ kind_at e k → kind_at e k ≤ kind_if_goto → operand e k < length e
   passing_target a b = start_in e (operand e k) (aims_target e k p.aims p.start a b).0
 
+-- what a height is joined with is reached
+joined_some : (c h : ℕ) → h ≢ unreached → joined c h ≢ unreached
+joined_some c h n z =
+    elim (ℕ_discrete c unreached) [
+      | yes p ↦ absurd (n (sym (joined_first c h p) ∙ z))
+      | no p ↦ elim (ℕ_discrete c h) [
+        | yes q ↦ absurd (n (sym (joined_same c h q) ∙ z))
+        | no q ↦ absurd (omega (arith, joined_differing c h p q))
+      ]
+    ]
+
 -- ---- what comes to a start: c and b by jumps, h and d from the start before
 module _ (c b h d : ℕ) where
   pub incoming_flow : c ≡ unreached → (c ≡ unreached → b ≡ 0) → h < 256 → Incoming c b h d (record { height = h; distance = d })
@@ -79,10 +94,16 @@ module _ (c b h d : ℕ) where
     height_is = elim (ℕ_discrete h unreached) [ yes r ↦ rw (eq-eqb h unreached r) (r ∙ sym p) | no r ↦ rw (ne_eqb h unreached r) (sym (joined_first c h p)) ];
     small = s;
     distance_is = λ r. rw (ne_eqb h unreached r) (omega (arith, q p));
+    kept = λ _. refl;
   }
 
   pub incoming_both : {x y : ℕ} → h ≢ unreached → x ≡ joined c h → x < 256 → y ≡ max b d → Incoming c b h d (record { height = x; distance = y })
-  incoming_both p q s t = record { height_is = rw (ne_eqb h unreached p) q; small = s; distance_is = λ _. rw (ne_eqb h unreached p) t }
+  incoming_both p q s t = record {
+    height_is = rw (ne_eqb h unreached p) q;
+    small = s;
+    distance_is = λ _. rw (ne_eqb h unreached p) t;
+    kept = λ z. absurd (joined_some c h p (sym q ∙ z));
+  }
 
 pub farther_low : (h b d n : ℕ) → b ≤ n → d ≤ n → farther h b d ≤ n
 farther_low h b d n p q = elim (ℕ_discrete h unreached) [ yes r ↦ rw (eq-eqb h unreached r) p | no r ↦ rw (ne_eqb h unreached r) (omega arith) ]
@@ -155,8 +176,31 @@ stepped e k h d g l {s} p f z m t =
       brings = record { heights_are = λ _. t.heights_are z; distances_are = λ _. t.distances_are z };
     }
 
--- a refusal leaves all that is lent as it was
-pub refused_step : (e : List ℕ) (k h d g l : ℕ) {r : Carry} {hs ds : List ℕ} → r.fault ≡ fault3 e k h → r.fault ≢ 0 → ReachedStep e k h d g l r hs ds hs ds
+-- the kinds that are neither pick nor a jump nor an end
+pub kind_straight : (k : Kind) → (k ≡ Unknown) ⊎ (k ≡ Unsupported) ⊎ (k ≡ Ext) ⊎ (k ≡ Variable) ⊎ (k ≡ Plain) → kind_of k < kind_pick
+kind_straight k (inl p) = rw p (omega arith)
+kind_straight k (inr (inl p)) = rw p (omega arith)
+kind_straight k (inr (inr (inl p))) = rw p (omega arith)
+kind_straight k (inr (inr (inr (inl p)))) = rw p (omega arith)
+kind_straight k (inr (inr (inr (inr p)))) = rw p (omega arith)
+
+-- the last kind: what is neither pick nor a jump
+pub kind_last : (k : Kind) → kind_pick ≤ kind_of k → (k ≡ Pick → ⊥) → (k ≡ IfGoto → ⊥) → (k ≡ Goto → ⊥) → kind_of k ≡ kind_end
+kind_last Unknown h p i g = absurd (omega (arith, h))
+kind_last Unsupported h p i g = absurd (omega (arith, h))
+kind_last Ext h p i g = absurd (omega (arith, h))
+kind_last Variable h p i g = absurd (omega (arith, h))
+kind_last Plain h p i g = absurd (omega (arith, h))
+kind_last Pick h p i g = absurd (p refl)
+kind_last Goto h p i g = absurd (g refl)
+kind_last IfGoto h p i g = absurd (i refl)
+kind_last End h p i g = refl
+
+-- a refusal says nothing of what is lent
+pub brings_refused : (e : List ℕ) (k h d : ℕ) {r : Carry} {hs ds hs' ds' : List ℕ} → r.fault ≢ 0 → Brings e k h d r hs ds hs' ds'
+brings_refused e k h d n = record { heights_are = λ z. absurd (n z); distances_are = λ z. absurd (n z) }
+
+pub refused_step : (e : List ℕ) (k h d g l : ℕ) {r : Carry} {hs ds hs' ds' : List ℕ} → r.fault ≡ fault3 e k h → r.fault ≢ 0 → ReachedStep e k h d g l r hs ds hs' ds'
 refused_step e k h d g l p n =
     record { number = p; passed = λ z. absurd (n z); brings = record { heights_are = λ z. absurd (n z); distances_are = λ z. absurd (n z) } }
 
@@ -229,14 +273,7 @@ flows_small false h low = omega arith
 
 -- ---- the code's tables, where a jump has brought something to its target
 pub joined_reached : (c h : ℕ) → h ≤ 64 → joined c h ≢ unreached
-joined_reached c h low z =
-    elim (ℕ_discrete c unreached) [
-      | yes p ↦ absurd (omega (arith, joined_first c h p))
-      | no p ↦ elim (ℕ_discrete c h) [
-        | yes q ↦ absurd (omega (arith, joined_same c h q))
-        | no q ↦ absurd (omega (arith, joined_differing c h p q))
-      ]
-    ]
+joined_reached c h low = joined_some c h (omega arith)
 
 if_untold : (b : Bool) (m j h d : ℕ) (hs ds : List ℕ) → h ≤ 64 → j < length hs → (get_or hs j 0 ≡ unreached → get_or ds j 0 ≡ 0)
     → get_or (cond b (arrive h m hs) hs) j 0 ≡ unreached → get_or (cond b (raise d m ds) ds) j 0 ≡ 0

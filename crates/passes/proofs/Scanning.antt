@@ -22,7 +22,7 @@ use Rattle.logic.proofs.Promises.{cases, no_true}
 use Rattle.isa.proofs.Promises.{jump_operands, from_end, from_next}
 use Rattle.verdict.specs.Fault.{fault, first}
 use Rattle.verdict.specs.Pass1.{fault1, pass1}
-use Rattle.passes.specs.Joining.Tables.{jumps_among, jump_starts, Unmarked, Scanned, noted, counted}
+use Rattle.passes.specs.Joining.Tables.{jumps_among, jump_starts, Unmarked, Notes, Scanned, noted, counted}
 use Rattle.verdict.proofs.Deciding.{first_nil, first_ok, first_fault, clear_holds, clear_fits, replicate_at}
 
 -- ---- the starts marked in a table
@@ -99,6 +99,10 @@ module _ (e : List ℕ) (i j : ℕ) (a ks : List ℕ) (room : j ≤ length a) wh
   few_by : (b : Bool) → jumps e i ≡ b → (n : ℕ) → 3 * j ≤ i → i + 1 ≤ n → (b ≡ true → i + 3 ≤ n) → 3 * counted b j ≤ n
   few_by true p n h l t = let z = t refl in omega arith
   few_by false p n h l t = omega arith
+
+-- nothing is noted of what is no jump
+pub notes_none : (e : List ℕ) (k n : ℕ) (a : List ℕ) {m : ℕ} {t : List ℕ} → jumps e k ≡ false → m ≡ n → t ≡ a → Notes (jumps e k) k n a m t
+notes_none e k n a p q r = rw p (record { count_is = q; table_is = r })
 
 noted_long : (b : Bool) (i j : ℕ) (a : List ℕ) → length (noted b i j a) ≡ length a
 noted_long true i j a = length-set a j i

@@ -14,7 +14,7 @@ use verdict::Accepted;
 pub mod brought;
 mod pass1;
 mod pass2;
-mod pass3;
+pub mod pass3;
 
 // The verdict, for a caller that holds the rows. Short expressions have short tables, which are soon cleared.
 pub fn verify_by(rows: &Rows, e: &[u8]) -> Result<Accepted, Refusal>

@@ -33,13 +33,21 @@ impl<const BYTES: usize, const JUMPS: usize> Found<BYTES, JUMPS> {
         }
     }
 
+    // Marks the start `at`.
+    fn mark_start(&mut self, at: usize)
+        requires start { at < BYTES }
+        ensures { (self.new.marks ≡ slice_set self.old.marks at true) × (self.new.noted ≡ self.old.noted) × (self.new.jumps ≡ self.old.jumps) }
+    {
+        self.marks[at] = true;
+    }
+
     // Marks the start `at`, and notes it where its instruction is a jump.
     fn mark(&mut self, kind: Kind, at: usize)
         requires start { (at < expression_most) × (at < BYTES) }
         requires room { (kind_goto ≤ kind_of kind → kind_of kind ≤ kind_if_goto → self.old.noted < JUMPS) }
         ensures { (self.new.marks ≡ slice_set self.old.marks at true) × Notes (is_jump (kind_of kind)) at self.old.noted self.old.jumps self.new.noted self.new.jumps }
     {
-        self.marks[at] = true;
+        self.mark_start(at);
         if kind.is_jump() {
             self.jumps[self.noted] = at as u16;
             self.noted += 1;
@@ -72,7 +80,8 @@ fn fault_at(kind: Kind, e: &[u8], at: usize) -> Result<(), Reason>
     }
 }
 
-// Looks at the instruction at `at`: the offset behind it, or its refusal.
+// Looks at the instruction at `at`: the offset behind it, or its refusal. Most are plain: they have no refusal here and
+// are no jumps.
 fn look<const BYTES: usize, const JUMPS: usize>(
     rows: &Rows,
     e: &[u8],
@@ -88,8 +97,16 @@ fn look<const BYTES: usize, const JUMPS: usize>(
     if e.len() < next {
         return Err(Reason::OperandsCut);
     }
+    if row.kind == Kind::Plain {
+        found.mark_start(at);
+        return Ok(next);
+    }
+    if row.kind.is_jump() {
+        found.mark(row.kind, at);
+        return Ok(next);
+    }
     fault_at(row.kind, e, at)?;
-    found.mark(row.kind, at);
+    found.mark_start(at);
     Ok(next)
 }
 

@@ -1,7 +1,8 @@
 // Pass 3: the heights of the stack in rising offset, and with them the greatest height and the longest walk. From one
 // start to the next height and distance go along in locals; the tables hold what jumps bring.
-ghost use Rattle.std.specs.Prelude.{◌≡◌, ◌≢◌, List, ℕ, ◌≤◌, ◌<◌, length, get_or};
+ghost use Rattle.std.specs.Prelude.{◌≡◌, ◌≢◌, List, ℕ, ◌≤◌, ◌<◌, leb, length, get_or};
 ghost use Rattle.sizes.specs.Sizes.{expression_most};
+ghost use Rattle.isa.specs.Classes.{kind_pick, kind_goto, kind_if_goto};
 ghost use Rattle.isa.specs.Decode.{kind_at, next as next_start, needed as needed_cells, left as left_cells};
 ghost use Rattle.isa.specs.Joining.Rows.{kind_of, IsRow};
 ghost use Rattle.isa.specs.Starts.{starts};
@@ -10,7 +11,7 @@ ghost use Rattle.verdict.specs.Pass1.{Decodes};
 ghost use Rattle.verdict.specs.Pass2.{Aims};
 ghost use Rattle.verdict.specs.Pass3.{unreached, differing, arrive, raise, at_target, runs_off_end, pass3};
 ghost use Rattle.verdict.specs.Verdict.{verdict_of, after3};
-ghost use Rattle.passes.specs.Joining.Tables.{carried, Unmeasured, Passing, Incoming, Standing, ReachedStart, Effected, FlowsFrom, ReachedStep, Turned};
+ghost use Rattle.passes.specs.Joining.Tables.{carried, Unmeasured, Passing, Incoming, Standing, ReachedStart, Effected, Brings, FlowsFrom, ReachedStep, Turned};
 
 use crate::brought;
 use crate::brought::{Brought, Flow};
@@ -104,7 +105,64 @@ fn flowing(kind: Kind, after: Carry) -> Carry
     }
 }
 
-// A reached start. The N of pick N comes on top of its row.
+// A jump: its effect, and what arrives at its target.
+fn step_jump<const N: usize>(
+    row: Row,
+    e: &[u8],
+    at: usize,
+    is_off: bool,
+    carry: Carry,
+    brought: &mut Brought<N>,
+) -> Result<Carry, Reason>
+    requires row { IsRow (get_or e.now at 0) row }
+    requires reached { ReachedStart e.now at carry.height carry.distance brought.old.heights brought.old.distances }
+    requires jump { (kind_goto ≤ kind_of row.kind) × (kind_of row.kind ≤ kind_if_goto) × (is_off ≡ runs_off_end e.now at) }
+    ensures { Effected e.now at carry.height carry.distance carry.greatest carry.longest (carried result) × Brings e.now at carry.height carry.distance (carried result) brought.old.heights brought.old.distances brought.new.heights brought.new.distances }
+{
+    let needed = usize::from(row.needed);
+    let left = usize::from(row.left);
+    let after = effect_by(carry, needed, left, is_off)?;
+    bring(row.kind, e, at, after, brought);
+    Ok(after)
+}
+
+// A reached start whose instruction is pick, a jump or an end. The N of pick N comes on top of its row.
+fn step_other<const N: usize>(
+    row: Row,
+    e: &[u8],
+    at: usize,
+    is_past: bool,
+    carry: Carry,
+    brought: &mut Brought<N>,
+) -> Result<Carry, Reason>
+    requires row { IsRow (get_or e.now at 0) row }
+    requires kind { kind_pick ≤ kind_of row.kind }
+    requires reached { ReachedStart e.now at carry.height carry.distance brought.old.heights brought.old.distances }
+    requires past { is_past ≡ leb (length e.now) (next_start e.now at) }
+    ensures { ReachedStep e.now at carry.height carry.distance carry.greatest carry.longest (carried result) brought.old.heights brought.old.distances brought.new.heights brought.new.distances }
+{
+    match row.kind {
+        Kind::Pick => {
+            let picked = isa::picked_at(row, e, at);
+            let needed = usize::from(row.needed) + picked;
+            let left = usize::from(row.left) + picked;
+            effect_by(carry, needed, left, is_past)
+        }
+        Kind::IfGoto => step_jump(row, e, at, is_past, carry, brought),
+        Kind::Goto => {
+            let after = step_jump(row, e, at, false, carry, brought)?;
+            Ok(flowing(row.kind, after))
+        }
+        _ => {
+            let needed = usize::from(row.needed);
+            let left = usize::from(row.left);
+            let after = effect_by(carry, needed, left, false)?;
+            Ok(flowing(row.kind, after))
+        }
+    }
+}
+
+// A reached start. Most instructions have no N on top of their row and no target, and the next start follows.
 fn step_reached<const N: usize>(
     row: Row,
     e: &[u8],
@@ -118,13 +176,15 @@ fn step_reached<const N: usize>(
     requires next { next ≡ next_start e.now at }
     ensures { ReachedStep e.now at carry.height carry.distance carry.greatest carry.longest (carried result) brought.old.heights brought.old.distances brought.new.heights brought.new.distances }
 {
-    let picked = isa::picked_at(row, e, at);
-    let needed = usize::from(row.needed) + picked;
-    let left = usize::from(row.left) + picked;
-    let is_off = row.kind.goes_on() && e.len() <= next;
-    let after = effect_by(carry, needed, left, is_off)?;
-    bring(row.kind, e, at, after, brought);
-    Ok(flowing(row.kind, after))
+    let is_past = e.len() <= next;
+    match row.kind {
+        Kind::Unknown | Kind::Unsupported | Kind::Ext | Kind::Variable | Kind::Plain => {
+            let needed = usize::from(row.needed);
+            let left = usize::from(row.left);
+            effect_by(carry, needed, left, is_past)
+        }
+        _ => step_other(row, e, at, is_past, carry, brought),
+    }
 }
 
 // One start: what comes to it, and its refusal or what it passes on.
@@ -142,20 +202,17 @@ fn step<const N: usize>(
     ensures { Turned e.now at brought.old.heights brought.old.distances carry.height carry.distance carry.greatest carry.longest (carried result) brought.new.heights brought.new.distances }
 {
     let flow = incoming(at, carry.height, carry.distance, brought);
-    if flow.height == brought::UNREACHED {
-        return Ok(Carry {
-            height: brought::UNREACHED,
-            ..carry
-        });
-    }
-    if flow.height == brought::DIFFERING {
-        return Err(Reason::HeightsDiffer);
-    }
     let here = Carry {
         height: flow.height,
         distance: flow.distance,
         ..carry
     };
+    if here.height == brought::UNREACHED {
+        return Ok(here);
+    }
+    if here.height == brought::DIFFERING {
+        return Err(Reason::HeightsDiffer);
+    }
     step_reached(row, e, at, next, here, brought)
 }
 

@@ -62,9 +62,9 @@ pub struct NextRecord {
 
 // How many records there are, and the offset of the one that was asked for.
 #[derive(Clone, Copy)]
-struct Split {
-    count: usize,
-    found: Option<usize>,
+pub struct Split {
+    pub count: usize,
+    pub found: Option<usize>,
 }
 
 // ---- where a frame is

@@ -140,9 +140,9 @@ fn follow(
 // What a run has of its own: its stack, and a copy of the variables where it may set some. One value, so that both are
 // cleared at once.
 #[derive(Drop)]
-struct Own {
-    stack: Stack,
-    kept: [u64; sizes::VARIABLE_COUNT],
+pub struct Own {
+    pub stack: Stack,
+    pub kept: [u64; sizes::VARIABLE_COUNT],
 }
 
 // The same, which leaves the variables as given where it is refused. Where no variable is set, they are as given: so

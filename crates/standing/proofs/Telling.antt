@@ -1,6 +1,5 @@
 -- From a loop of steps to where the machine stands.
 use mathlib.Core.List.{List, [], ◌∷◌, ◌++◌, append-nil, reverse, reverse_aux}
-use mathlib.Core.Logic.{◌⊎◌, ⊎_elim}
 use mathlib.Core.Path.{◌≡◌, refl, ap, sym, subst, ◌∙◌}
 use Prim.Native.Nat.{ℕ, zero, suc, ◌≤◌, ◌<◌, zero-le}
 use native.Mathlib.Omega.{arith}
@@ -24,9 +23,7 @@ use Rattle.machine.specs.Run.{input_refusal, begun}
 use Rattle.machine.specs.Standing.{standing_from}
 use Rattle.machine.proofs.Promises.{begun_refused, begun_inputs, begun_fine, over_stays}
 use Rattle.operations.specs.declared.Place.{Place}
-use Rattle.runner.specs.Joining.Going.{Moved, GoesOn, Gone}
-use Rattle.runner.specs.declared.Went.{Went}
-use Rattle.runner.specs.declared.Went.TheVariants.{On, Ended, Refused}
+use Rattle.runner.specs.Joining.Going.{Moved, GoesOn, HasEnded, IsRefused}
 use Rattle.standing.specs.Seen.{seen, StandsIn, Stands}
 use Rattle.standing.specs.Joining.Advancing.{Advanced}
 use Rattle.standing.specs.declared.Stood.{Stood}
@@ -65,10 +62,11 @@ module _ (g : Given) {a v b : List ℕ} where
   over_by : {n : ℕ} {o : machine.Ended} {rs : List Record} → Moved g n (over o) rs a v b → Advanced g None a v b
   over_by {n} m = over_told g (over_stays g (stands (begin g)) n g.allowance m.same m.within) m.long
 
-  pub stands_over : (w : Went) → Gone g w a v b → ((q : Place) × (n : ℕ) × (w ≡ Ended q n)) ⊎ ((x : code.Refusal) × (w ≡ Refused x)) → Advanced g None a v b
-  stands_over (On q) e i = absurd (⊎_elim (λ p. cc p.2) (λ p. cc p.1) i)
-  stands_over (Ended q n) e i = over_by e.moved
-  stands_over (Refused x) e i = over_by e.moved
+  pub stands_ended : {q : Place} {n : ℕ} → HasEnded g q n a v b → Advanced g None a v b
+  stands_ended e = over_by e.moved
+
+  pub stands_refused : {x : code.Refusal} → IsRefused g x a v b → Advanced g None a v b
+  stands_refused e = over_by e.moved
 
 -- ---- how a run begins: a refused expression, refused inputs, or the steps
 ok_some : {A E : Type 0} (r : Result A E) {x : A} → result_ok r ≡ Some x → r ≡ Ok x

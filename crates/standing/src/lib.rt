@@ -44,6 +44,7 @@ pub fn stand(
             at: place.at,
             height: place.height,
         }),
-        Went::Ended(_, _) | Went::Refused(_) => None,
+        Went::Ended(_, _) => None,
+        Went::Refused(_) => None,
     }
 }

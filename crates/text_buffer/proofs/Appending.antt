@@ -1,15 +1,16 @@
 -- Laws of text that grows in a buffer, for the proofs of the functions of `text`. Assumes nothing.
 use Prim.Native.Nat.{ℕ, ◌≤◌, ◌<◌, ◌+◌, ◌-◌, min}
 use native.Mathlib.Omega.{arith}
+use native.Mathlib.Numerals.{add-one}
 use mathlib.Core.Path.{◌≡◌, refl, sym, ap, subst, ◌∙◌}
-use mathlib.Core.List.{List, [], ◌++◌}
-use lib.ListN.{length, take, drop, length-append, take-append-drop, drop_of_length-le}
-use lib.Seq.{length-take-le, take_all, take-append-le}
+use mathlib.Core.List.{List, [], ◌∷◌, ◌++◌}
+use lib.ListN.{length, take, drop, set, get_or, length-set, length-append, take-append-drop, drop_of_length-le}
+use lib.Seq.{length-take-le, take_all, take-suc, take-append-le}
 use borrow.Rule.Slice.PartMut.{put_mid}
 use Rattle.io.specs.Counts.{IsPrefixLen}
 use Rattle.encoding.specs.Written.{written_at}
 use Rattle.logic.proofs.Promises.{cases}
-use Rattle.encoding.proofs.Promises.{written_length, written_nothing, written_more, written_upto, written_behind, written_past, part_copied}
+use Rattle.encoding.proofs.Promises.{written_length, written_nothing, written_more, written_store, written_upto, written_behind, written_past, part_copied}
 use Rattle.text_buffer.specs.Text.{Text, Appends}
 
 pub counts : (n : ℕ) (xs : List ℕ) → n ≤ length xs → IsPrefixLen n xs
@@ -48,6 +49,9 @@ appends_beyond b n s h = record { bytes = sym (written_past b n s h); ends = ome
 pub appends_nothing : (b : List ℕ) (n : ℕ) → n ≤ length b → Appends b n [] b n
 appends_nothing b n h = record { bytes = sym (written_nothing b n); ends = omega (arith, h) }
 
+appends_store : (b : List ℕ) (n x : ℕ) → n < length b → Appends b n (x ∷ []) (set b n x) (n + 1)
+appends_store b n x h = record { bytes = written_store b n x; ends = omega (arith, h) }
+
 -- ---- what stands in the buffer
 -- no text yet
 text_start : (b : List ℕ) → Text b 0 []
@@ -85,6 +89,42 @@ module _ {b b' : List ℕ} {n n' : ℕ} {s : List ℕ} (p : Appends b n s b' n')
 -- the first text of a buffer
 pub text_of : {b b' : List ℕ} {n : ℕ} {s : List ℕ} → Appends b 0 s b' n → Text b' n s
 text_of {b} p = appends_text p [] (text_start b)
+
+-- ---- i bytes of s are appended to the text that ended at `at` in the buffer b₀
+pub record Appending (b₀ : List ℕ) (at : ℕ) (s b : List ℕ) (n i : ℕ) : Type 0 where
+  pub turns : i ≤ length s
+  pub inside : n ≤ length b
+  pub size : length b ≡ length b₀
+  pub text : Appends b₀ at (take i s) b n
+
+pub appending_start : (b : List ℕ) (at : ℕ) (s : List ℕ) → at ≤ length b → Appending b at s b at 0
+appending_start b at s h = record {
+  turns = omega arith;
+  inside = h;
+  size = refl;
+  text = appends_nothing b at h;
+}
+
+module _ {b₀ : List ℕ} {at : ℕ} {s b : List ℕ} {n i : ℕ} (p : Appending b₀ at s b n i) where
+  pub appending_byte : n < length b → i < length s → Appending b₀ at s (set b n (get_or s i 0)) (n + 1) (i + 1)
+  appending_byte h k =
+      let x = get_or s i 0 in
+      let e : take (i + 1) s ≡ take i s ++ (x ∷ []) = ap (λ (j : ℕ). take j s) (add-one i) ∙ take-suc s i 0 k in
+      record {
+        turns = omega arith;
+        inside = omega (arith, length-set b n x);
+        size = length-set b n x ∙ p.size;
+        text = appends_same (take i s ++ (x ∷ [])) (take (i + 1) s) (sym e) (appends_then (take i s) (x ∷ []) p.text (appends_store b n x h));
+      }
+
+  pub appending_full : length b ≤ n → Appends b₀ at s b n
+  appending_full h =
+      let k : length b ≡ n = omega (arith, h, p.inside) in
+      appends_same (take i s ++ drop i s) s (take-append-drop i s)
+      (appends_then (take i s) (drop i s) p.text (subst (Appends b n (drop i s) b) k (appends_beyond b n (drop i s) h)))
+
+  pub appending_end : length s ≤ i → Appends b₀ at s b n
+  appending_end h = appends_same (take i s) s (take_all i s h) p.text
 
 -- ---- as many bytes as there is room for are copied, to a part that is lent as `&mut b[n..n + c]`
 written_cut : (b : List ℕ) (n c : ℕ) (s : List ℕ) → c ≡ min (length s) (length b - n) → written_at b n (take c s) ≡ written_at b n s

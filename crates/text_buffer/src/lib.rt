@@ -1,7 +1,7 @@
 // A text that grows in a buffer that the caller lends, cut where the buffer ends.
 #![tactic(auto)]
 
-ghost use Rattle.std.specs.Prelude.{ℕ, ◌≡◌, take};
+ghost use Rattle.std.specs.Prelude.{ℕ, ◌≡◌, ◌≤◌, take, length};
 ghost use Rattle.io.specs.Counts.{IsPrefixLen};
 ghost use Rattle.io.specs.Digits.{last_digits, IsDigitCount};
 ghost use Rattle.text_buffer.specs.Text.{Appends};
@@ -52,6 +52,23 @@ impl<'a> TextBuffer<'a> {
     }
 }
 
+// The same as `append`, for pieces of one to three bytes, as most are: the library's copy is a call, which costs more.
+// The test in the loop keeps the compiler from making a call of the loop.
+fn append_each(out: &mut [u8], at: usize, bytes: &[u8]) -> usize
+    requires { at ≤ length out.old }
+    ensures { Appends out.old at bytes.now out.new result }
+{
+    let mut end = at;
+    for i in 0..bytes.len() {
+        if out.len() <= end {
+            return end;
+        }
+        out[end] = bytes[i];
+        end += 1;
+    }
+    end
+}
+
 // Appends bytes to the text that ends at `at`, and answers where it ends then.
 pub fn append(out: &mut [u8], at: usize, bytes: &[u8]) -> usize
     ensures count { IsPrefixLen result out.new }
@@ -59,6 +76,9 @@ pub fn append(out: &mut [u8], at: usize, bytes: &[u8]) -> usize
 {
     if out.len() < at {
         return out.len();
+    }
+    if bytes.len() < 4 {
+        return append_each(out, at, bytes);
     }
     let count = bytes.len().min(out.len() - at);
     out[at..at + count].copy_from_slice(&bytes[..count]);

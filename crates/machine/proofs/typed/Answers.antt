@@ -2,7 +2,7 @@ use native.Mathlib.Omega.{arith}
 use Rattle.machine.proofs.typed.Goals as goal
 
 pub returns : goal.returns
-returns c = λ buffer allowance. record {
+returns c = λ buffer used allowance. record {
   expression = c.bytes_known.ensures;
   registers = c.words_known.ensures;
   variables = c.words_known-2.ensures;

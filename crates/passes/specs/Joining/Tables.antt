@@ -96,6 +96,7 @@ pub record Incoming (c b h d : ℕ) (r : Flow) : Type 0 where
   pub height_is : r.height ≡ arrived c h
   pub small : r.height < 256
   pub distance_is : r.height ≢ unreached → r.distance ≡ farther h b d
+  pub kept : r.height ≡ unreached → r.distance ≡ d
 
 -- the code stands at the start k, to which h and d flow in
 pub record Standing (e : List ℕ) (k h d : ℕ) (hs ds : List ℕ) : Type 0 where

@@ -13,12 +13,12 @@ use Rattle.runner.proofs.run.Goals as goal
 pub returns-in_err-noted : goal.returns-in_err-noted
 returns-in_err-noted c =
     let p = err_from_is_err_and c.from_residual.result c.from_residual.ensures.1 in
-    rw (p.1, p.2) (enter_refused _ (c.typed.ensures _ _) (sym c.verify_noting-noted.ensures.0 ∙ ap verdict_of c.in_err-noted.was))
+    rw (p.1, p.2) (enter_refused _ (c.typed.ensures _ _ _) (sym c.verify_noting-noted.ensures.0 ∙ ap verdict_of c.in_err-noted.was))
 
 pub returns-in-Err : goal.returns-in-Err
 unfolding input_refusal
 returns-in-Err c =
-    enter_inputs _ (c.typed.ensures _ _) (sym c.verify_noting-noted.ensures.0 ∙ ap verdict_of c.in_ok-noted.was) _ c.in-Err.ensures.number c.at.ensures
+    enter_inputs _ (c.typed.ensures _ _ _) (sym c.verify_noting-noted.ensures.0 ∙ ap verdict_of c.in_ok-noted.was) _ c.in-Err.ensures.number c.at.ensures
 
 pub run_accepted-requires : goal.run_accepted-requires
 unfolding input_refusal
@@ -31,6 +31,6 @@ pub returns : goal.returns
 unfolding input_refusal
 returns c =
     let i = c.args.inputs in
-    enter_loop _ (c.typed.ensures _ _) (sym c.verify_noting-noted.ensures.0 ∙ ap verdict_of c.in_ok-noted.was) c.in-Ok.ensures.number
+    enter_loop _ (c.typed.ensures _ _ _) (sym c.verify_noting-noted.ensures.0 ∙ ap verdict_of c.in_ok-noted.was) c.in-Ok.ensures.number
     (subst (λ (t : Target). RanAccepted (given i.code.now i.registers.now c.args.variables.now (target_of t) i.tracepoint c.args.buffer.now i.used c.args.allowance) c.run_accepted.result c.run_accepted.new.variables c.run_accepted.new.buffer)
     c.in-Ok.ensures.same c.run_accepted.ensures)

@@ -2,7 +2,7 @@ use Rattle.std.proofs.Common.{sym, arith}
 use Rattle.std.proofs.lemmas.Result.{err_from_is_err_and}
 use Rattle.refusals.proofs.Promises.{number_some}
 use Rattle.memory.proofs.Fetching.{spans_refused, refused_none, refusal_short, refusal_none, short_none, fetch_lends}
-use Rattle.memory.proofs.fetch.Goals as goal
+use Rattle.memory.proofs.lend.Goals as goal
 
 pub returns-in_err-memory-clause-number : goal.returns-in_err-memory-clause-number
 returns-in_err-memory-clause-number c =
